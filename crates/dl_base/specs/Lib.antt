@@ -1,0 +1,9 @@
+pub mod Consecutive
+pub mod Fakes
+pub mod Items
+pub mod Maps
+pub mod NumberTexts
+pub mod Outside
+pub mod Places
+pub mod Regions
+pub mod Statuses

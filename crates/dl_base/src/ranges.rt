@@ -1,0 +1,36 @@
+// Ranges of frames and pages, and ranges of bytes.
+
+/// Host frames `first` to `first + count - 1`. A frame is a host page of 4,096 bytes, named by its address divided by
+/// 4,096.
+#[derive(Clone, Copy, Debug, PartialEq, Eq)]
+pub struct FrameRange {
+    pub first: u64,
+    pub count: u64,
+}
+
+/// What a guest's page is. The kind decides the rights and the memory type of the words that map it.
+#[derive(Clone, Copy, Debug, PartialEq, Eq)]
+pub enum Kind {
+    /// Memory of the guest alone: read, write and execute.
+    Ram,
+    /// Registers of a device that is passed through: read and write.
+    Device,
+    /// Memory that several guests name by one id: read and write.
+    Shared,
+}
+
+/// `count` guest pages from `page` on, mapped one by one to the host frames from `first` on.
+#[derive(Clone, Copy, Debug, PartialEq, Eq)]
+pub struct MapRange {
+    pub page: u64,
+    pub first: u64,
+    pub count: u64,
+    pub kind: Kind,
+}
+
+/// An address range in bytes, as an entry of a `reg` gives it (Devicetree Specification 2.3.6).
+#[derive(Clone, Copy, Debug, PartialEq, Eq)]
+pub struct BaseSize {
+    pub base: u64,
+    pub size: u64,
+}
