@@ -27,7 +27,7 @@ pub use fake_sink::MemSink;
 pub use files::{FileError, Files, SizeError};
 pub use item::{Described, Item, ModuleKind, Part, What};
 pub use list::List;
-pub use number::NumberFault;
+pub use number::{NumberFault, read_number};
 pub use outs::{Failed, Outs};
 pub use ranges::{BaseSize, FrameRange, Kind, MapRange};
 pub use sink::Sink;
