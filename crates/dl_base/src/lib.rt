@@ -17,6 +17,8 @@ mod shown;
 mod sink;
 mod status;
 mod sure;
+#[cfg(test)]
+mod tests;
 mod text;
 mod why;
 
