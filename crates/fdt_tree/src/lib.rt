@@ -1,0 +1,22 @@
+//! Device trees in memory (Devicetree Specification 0.4, chapter 2): a tree that grows by nodes and properties, paths in
+//! it, and the values of properties.
+#![tactic(auto)]
+
+mod cell_counts;
+mod edit_fault;
+mod node;
+mod node_id;
+mod pieces;
+mod properties;
+mod reserve;
+#[cfg(test)]
+mod tests;
+mod tree;
+mod values;
+
+pub use cell_counts::{BadCells, cells};
+pub use edit_fault::EditFault;
+pub use node_id::NodeId;
+pub use reserve::Reserve;
+pub use tree::Tree;
+pub use values::{BadLength, has_string, u32_of, u64_of};

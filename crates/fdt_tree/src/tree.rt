@@ -1,0 +1,264 @@
+// A tree is a vector of nodes, of which the first is the root.
+ghost use Rattle.std.specs.Prelude.{◌≡◌, ◌<◌, ◌+◌, ◌⊎◌, ◌==◌, [], ◌++◌, ◌∷◌, length, OnOk, OnErr, IfOk, IfErr, IsTrue, option_map, option_and_then, IfSome, slice_get};
+ghost use Rattle.std.specs.List.{slice_split};
+ghost use Rattle.fdt_tree.specs.Tree.{descend, find_place, is_node_name, is_property_name, property_of};
+ghost use Rattle.fdt_tree.specs.Document.{empty, place_of, name_of, properties_of, IsNumbering, children_of, if_there, next_place, parent_place, with_child_of, with_property};
+
+use crate::edit_fault::EditFault;
+use crate::node::{Node, link};
+use crate::node_id::NodeId;
+use crate::pieces::cut;
+use crate::properties::value_of;
+use dl_base::Bytes;
+use sqlite_items::Items;
+use std::alloc::{AllocError, Global};
+use std::marker::Model;
+
+/// A device tree (Devicetree Specification 0.4, 2.2): ordered children, ordered properties, and a depth of at most 32.
+#[derive(Drop)]
+pub struct Tree {
+    nodes: Vec<Node>,
+}
+
+impl Model for Tree {
+    ghost use Rattle.fdt_tree.specs.Document.{Document};
+
+    ghost Value = { Document };
+
+    ghost use Rattle.fdt_tree.specs.Assembled.{coded_document, document, IsLinked};
+
+    ghost coded = { coded_document };
+
+    ghost view = { λ t. document t.nodes.items };
+
+    ghost invariant = { λ t. IsLinked (document t.nodes.items) t.nodes.items };
+}
+
+impl Tree {
+    /// A root alone, with no property.
+    pub fn new(alloc: Global) -> Result<Tree, AllocError>
+        ensures { IfOk result (λ tree. tree ≡ empty) }
+    {
+        let mut nodes = Vec::new(alloc);
+        let root = Node {
+            parent: 0,
+            position: 0,
+            depth: 1,
+            name: Bytes::new(alloc),
+            properties: Items::new(alloc),
+            children: Items::new(alloc),
+        };
+        nodes.push(root)?;
+        Ok(Tree { nodes })
+    }
+
+    /// The root. Its name is empty.
+    pub fn root(&self) -> NodeId
+        ensures live { result < length self.now.places }
+        ensures place { place_of self.now result ≡ [] }
+        ensures unnamed { name_of self.now result ≡ [] }
+    {
+        let _ = &self.nodes;
+        NodeId { number: 0 }
+    }
+
+    /// Every live number is of a node of its own.
+    pub fn numbering(&self)
+        ensures { IsNumbering self.now }
+    {
+        let _ = &self.nodes;
+    }
+
+    /// Adds a last child with no property and no child, whatever the names beside it. `Deep` where the parent's depth
+    /// is 32. After a refusal the tree is as it was.
+    pub fn add_node(&mut self, parent: NodeId, name: &[u8]) -> Result<NodeId, EditFault>
+        requires live { parent < length self.old.places }
+        requires node_name { IsTrue (is_node_name name.now) }
+        ensures ok { OnOk result (with_child_of self.old parent name.now ≡ Ok self.new) }
+        ensures newest { IfOk result (λ node. node ≡ length self.old.places) }
+        ensures longer { OnOk result (length self.new.places ≡ length self.old.places + 1) }
+        ensures refused { IfErr result (λ e. (e ≡ EditFault.Memory) ⊎ (with_child_of self.old parent name.now ≡ Err e)) }
+        ensures same { OnErr result (self.new ≡ self.old) }
+    {
+        let above = &self.nodes[parent.number];
+        let depth = above.depth;
+        if depth == 32 {
+            return Err(EditFault::Deep);
+        }
+        let position = above.children.len();
+        let alloc = *self.nodes.allocator();
+        let mut held = Bytes::new(alloc);
+        match held.append(name) {
+            Ok(()) => {}
+            Err(_) => return Err(EditFault::Memory),
+        }
+        let number = self.nodes.len();
+        let node = Node {
+            parent: parent.number,
+            position,
+            depth: depth + 1,
+            name: held,
+            properties: Items::new(alloc),
+            children: Items::new(alloc),
+        };
+        match link(&mut self.nodes, parent.number, node) {
+            Ok(()) => Ok(NodeId { number }),
+            Err(_) => Err(EditFault::Memory),
+        }
+    }
+
+    /// Adds a last property, whatever the names beside it. After want of memory the tree is as it was.
+    pub fn add_prop(&mut self, node: NodeId, name: &[u8], bytes: &[u8]) -> Result<(), AllocError>
+        requires live { node < length self.old.places }
+        requires property_name { IsTrue (is_property_name name.now) }
+        ensures ok { OnOk result (self.new ≡ with_property self.old (place_of self.old node) name.now bytes.now) }
+        ensures places { self.new.places ≡ self.old.places }
+        ensures err { OnErr result (self.new ≡ self.old) }
+    {
+        let alloc = *self.nodes.allocator();
+        let mut held_name = Bytes::new(alloc);
+        held_name.append(name)?;
+        let mut value = Bytes::new(alloc);
+        value.append(bytes)?;
+        let holder = &mut self.nodes[node.number];
+        holder.properties.push((held_name, value))
+    }
+
+    /// The name of a node.
+    pub fn name(&self, node: NodeId) -> &[u8]
+        requires { node < length self.now.places }
+        ensures { result.now ≡ name_of self.now node }
+    {
+        self.nodes[node.number].name.as_slice()
+    }
+
+    /// How many properties a node has.
+    pub fn prop_count(&self, node: NodeId) -> usize
+        requires { node < length self.now.places }
+        ensures { result ≡ length (properties_of self.now node) }
+    {
+        self.nodes[node.number].properties.len()
+    }
+
+    /// The node above a node; the root has none.
+    pub fn parent(&self, node: NodeId) -> Option<NodeId>
+        requires { node < length self.now.places }
+        ensures live { IfSome result (λ above. above < length self.now.places) }
+        ensures earlier { IfSome result (λ above. above < node) }
+        ensures place { option_map (λ above. place_of self.now above) result ≡ parent_place (place_of self.now node) }
+    {
+        if node.number == 0 {
+            None
+        } else {
+            Some(NodeId {
+                number: self.nodes[node.number].parent,
+            })
+        }
+    }
+
+    /// The first child of a node, if it has one.
+    pub fn first_child(&self, node: NodeId) -> Option<NodeId>
+        requires { node < length self.now.places }
+        ensures live { IfSome result (λ child. child < length self.now.places) }
+        ensures later { IfSome result (λ child. node < child) }
+        ensures place { option_map (λ child. place_of self.now child) result ≡ if_there self.now (place_of self.now node ++ 0 ∷ []) }
+    {
+        match self.nodes[node.number].children.get(0) {
+            None => None,
+            Some(number) => Some(NodeId { number: *number }),
+        }
+    }
+
+    /// The next child of the node's parent, if there is one; the root has none.
+    pub fn next_sibling(&self, node: NodeId) -> Option<NodeId>
+        requires { node < length self.now.places }
+        ensures live { IfSome result (λ next. next < length self.now.places) }
+        ensures later { IfSome result (λ next. node < next) }
+        ensures place { option_map (λ next. place_of self.now next) result ≡ option_and_then (λ p. if_there self.now p) (next_place (place_of self.now node)) }
+    {
+        let held = &self.nodes[node.number];
+        if node.number == 0 {
+            return None;
+        }
+        let siblings = &self.nodes[held.parent].children;
+        let count = siblings.len();
+        prove!(held.position < count);
+        match siblings.get(held.position + 1) {
+            None => None,
+            Some(number) => Some(NodeId { number: *number }),
+        }
+    }
+
+    /// The name and the value of the property at an index.
+    pub fn prop_at(&self, node: NodeId, index: usize) -> (&[u8], &[u8])
+        requires live { node < length self.now.places }
+        requires within { index < length (properties_of self.now node) }
+        ensures { slice_get (properties_of self.now node) index ≡ Some (result.0.now, result.1.now) }
+    {
+        let properties = self.nodes[node.number].properties.as_slice();
+        let (name, value) = &properties[index];
+        (name.as_slice(), value.as_slice())
+    }
+
+    /// The value of the first property of this name.
+    pub fn prop(&self, node: NodeId, name: &[u8]) -> Option<&[u8]>
+        requires { node < length self.now.places }
+        ensures { option_map (λ value. value.now) result ≡ property_of (properties_of self.now node) name.now }
+    {
+        value_of(self.nodes[node.number].properties.as_slice(), name)
+    }
+
+    /// The node that a path finds (Devicetree Specification 0.4, 2.2.3). A path begins with `/`; its components are
+    /// matched exactly, the first child of a name counting; `/` is the root, and an empty component finds nothing.
+    pub fn find(&self, path: &[u8]) -> Option<NodeId>
+        ensures live { IfSome result (λ node. node < length self.now.places) }
+        ensures place { option_map (λ node. place_of self.now node) result ≡ find_place self.now.tree path.now }
+    {
+        match path {
+            [] => None,
+            [first, rest @ ..] => {
+                if *first != b'/' {
+                    None
+                } else if rest.is_empty() {
+                    Some(self.root())
+                } else {
+                    self.descendant(rest)
+                }
+            }
+        }
+    }
+
+    /// The node that the components of a path lead to from the root, where `/` stands between them.
+    fn descendant(&self, components: &[u8]) -> Option<NodeId>
+        ensures live { IfSome result (λ node. node < length self.now.places) }
+        ensures place { option_map (λ node. place_of self.now node) result ≡ descend (slice_split (λ b. b == 47) components.now) self.now.tree.children }
+    {
+        let mut node = self.root();
+        let mut rest = components;
+        while let Some((name, after)) = cut(rest, b'/') {
+            match self.child_named(node, name) {
+                None => return None,
+                Some(child) => node = child,
+            }
+            rest = after;
+        }
+        self.child_named(node, rest)
+    }
+
+    /// The first child of this name, which is none where the name is empty.
+    fn child_named(&self, node: NodeId, name: &[u8]) -> Option<NodeId>
+        requires { node < length self.now.places }
+        ensures live { IfSome result (λ child. child < length self.now.places) }
+        ensures place { option_map (λ child. place_of self.now child) result ≡ option_map (λ p. place_of self.now node ++ p) (descend (name.now ∷ []) (children_of self.now node)) }
+    {
+        if name.is_empty() {
+            return None;
+        }
+        for child in self.nodes[node.number].children.as_slice() {
+            if self.nodes[*child].name.as_slice() == name {
+                return Some(NodeId { number: *child });
+            }
+        }
+        None
+    }
+}
