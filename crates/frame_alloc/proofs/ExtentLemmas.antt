@@ -1,0 +1,86 @@
+-- Extents at the end of a list: one that grows, and one that is added.
+use Rattle.std.proofs.Common.{◌≡◌, ℕ, zero, suc, ◌+◌, ◌^◌, ◌<◌, ◌≤◌, ◌⊎◌, inl, inr, List, [], ◌∷◌, ◌++◌, length, get_or, set, drop, refl, sym, ap, subst, ◌∙◌, arith, append-nil, append_assoc}
+use Rattle.std.proofs.lemmas.List.{drop_more}
+use Rattle.std.proofs.lemmas.Grind.{flat_map-append}
+use Rattle.dl_base.specs.Consecutive.{numbers}
+use Rattle.dl_base.specs.declared.ranges.FrameRange.{FrameRange}
+use Rattle.frame_alloc.specs.Frames.{frames_in, AreFrameRangesFrom}
+use Rattle.frame_alloc.specs.Extents.{frames_of, end_from, AreExtentsFrom}
+use Rattle.frame_alloc.specs.declared.extents.Extent.{Extent}
+use Rattle.frame_alloc.proofs.Without.{numbers-split}
+
+-- the extents end where the last one does
+pub end_from-last : (es : List Extent) (i : ℕ) (e : Extent) (s : ℕ) → i + 1 ≡ length es → e ≡ get_or es i e → end_from s es ≡ e.first + e.count
+end_from-last [] i e s at is = absurd (omega arith)
+end_from-last (x ∷ []) zero e s at is = ap (λ (y : Extent). y.first + y.count) (sym is)
+end_from-last (x ∷ []) (suc i) e s at is = absurd (omega arith)
+end_from-last (x ∷ y ∷ ys) zero e s at is = absurd (omega arith)
+end_from-last (x ∷ y ∷ ys) (suc i) e s at is = end_from-last (y ∷ ys) i e (x.first + x.count) (omega arith) is
+
+-- the last extent is in bounds
+pub bound-last : (es : List Extent) (i : ℕ) (e : Extent) (start : ℕ) → AreExtentsFrom start es → i + 1 ≡ length es → e ≡ get_or es i e → e.first + e.count ≤ 2 ^ 28
+bound-last [] i e start ok at is = absurd (omega arith)
+bound-last (x ∷ []) zero e start ok at is = subst (λ (y : Extent). y.first + y.count ≤ 2 ^ 28) (sym is) ok.2
+bound-last (x ∷ []) (suc i) e start ok at is = absurd (omega arith)
+bound-last (x ∷ y ∷ ys) zero e start ok at is = absurd (omega arith)
+bound-last (x ∷ y ∷ ys) (suc i) e start ok at is = bound-last (y ∷ ys) i e (x.first + x.count + 1) ok.3 (omega arith) is
+
+-- the last extent with n more frames
+abbrev pub longer : Extent → ℕ → Extent
+longer e n = record { first = e.first; count = e.count + n }
+
+pub frames_of-longer : (es : List Extent) (i : ℕ) (e : Extent) (n : ℕ) → i + 1 ≡ length es → e ≡ get_or es i e → frames_of (set es i (longer e n)) ≡ frames_of es ++ numbers (e.first + e.count) n
+frames_of-longer [] i e n at is = absurd (omega arith)
+frames_of-longer (x ∷ []) zero e n at is =
+    append-nil (numbers e.first (e.count + n))
+    ∙ numbers-split e.first e.count n
+    ∙ ap (λ (y : Extent). numbers y.first y.count ++ numbers (e.first + e.count) n) is
+    ∙ ap (λ xs. xs ++ numbers (e.first + e.count) n) (sym (append-nil (numbers x.first x.count)))
+frames_of-longer (x ∷ []) (suc i) e n at is = absurd (omega arith)
+frames_of-longer (x ∷ y ∷ ys) zero e n at is = absurd (omega arith)
+frames_of-longer (x ∷ y ∷ ys) (suc i) e n at is =
+    ap (λ xs. numbers x.first x.count ++ xs) (frames_of-longer (y ∷ ys) i e n (omega arith) is)
+    ∙ sym (append_assoc (numbers x.first x.count) (frames_of (y ∷ ys)) (numbers (e.first + e.count) n))
+
+pub AreExtents-longer : (es : List Extent) (i : ℕ) (e : Extent) (n start : ℕ) → AreExtentsFrom start es → i + 1 ≡ length es → e ≡ get_or es i e → e.first + e.count + n ≤ 2 ^ 28 → AreExtentsFrom start (set es i (longer e n))
+AreExtents-longer [] i e n start ok at is low = absurd (omega arith)
+AreExtents-longer (x ∷ []) zero e n start ok at is low =
+    (subst (λ (y : Extent). start ≤ y.first) (sym is) ok.0, let some : 0 < e.count = subst (λ (y : Extent). 0 < y.count) (sym is) ok.1 in omega arith, omega arith, tt)
+AreExtents-longer (x ∷ []) (suc i) e n start ok at is low = absurd (omega arith)
+AreExtents-longer (x ∷ y ∷ ys) zero e n start ok at is low = absurd (omega arith)
+AreExtents-longer (x ∷ y ∷ ys) (suc i) e n start ok at is low = (ok.0, ok.1, ok.2, AreExtents-longer (y ∷ ys) i e n (x.first + x.count + 1) ok.3 (omega arith) is low)
+
+pub end_from-longer : (es : List Extent) (i : ℕ) (e : Extent) (n s : ℕ) → i + 1 ≡ length es → end_from s (set es i (longer e n)) ≡ e.first + e.count + n
+end_from-longer [] i e n s at = absurd (omega arith)
+end_from-longer (x ∷ []) zero e n s at = omega arith
+end_from-longer (x ∷ []) (suc i) e n s at = absurd (omega arith)
+end_from-longer (x ∷ y ∷ ys) zero e n s at = absurd (omega arith)
+end_from-longer (x ∷ y ∷ ys) (suc i) e n s at = end_from-longer (y ∷ ys) i e n (x.first + x.count) (omega arith)
+
+pub frames_of-push : (es : List Extent) (e : Extent) → frames_of (es ++ e ∷ []) ≡ frames_of es ++ numbers e.first e.count
+frames_of-push es e = flat_map-append (λ (extent : Extent). numbers extent.first extent.count) es (e ∷ []) ∙ ap (λ xs. frames_of es ++ xs) (append-nil (numbers e.first e.count))
+
+push_after : (es : List Extent) (e : Extent) (s : ℕ) → AreExtentsFrom (s + 1) es → end_from s es < e.first → 0 < e.count → e.first + e.count ≤ 2 ^ 28 → AreExtentsFrom (s + 1) (es ++ e ∷ [])
+push_after [] e s ok past some low = (omega arith, some, low, tt)
+push_after (x ∷ xs) e s ok past some low = (ok.0, ok.1, ok.2, push_after xs e (x.first + x.count) ok.3 past some low)
+
+pub AreExtents-push : (es : List Extent) (e : Extent) → AreExtentsFrom 0 es → (length es ≡ 0) ⊎ (end_from 0 es < e.first) → 0 < e.count → e.first + e.count ≤ 2 ^ 28 → AreExtentsFrom 0 (es ++ e ∷ [])
+AreExtents-push [] e ok past some low = (omega arith, some, low, tt)
+AreExtents-push (x ∷ xs) e ok (inl none) some low = absurd (omega arith)
+AreExtents-push (x ∷ xs) e ok (inr past) some low = (ok.0, ok.1, ok.2, push_after xs e (x.first + x.count) ok.3 past some low)
+
+pub end_from-push : (es : List Extent) (e : Extent) (s : ℕ) → end_from s (es ++ e ∷ []) ≡ e.first + e.count
+end_from-push [] e s = refl
+end_from-push (x ∷ xs) e s = end_from-push xs e (x.first + x.count)
+
+-- one turn of a loop over sorted ranges
+pub ranges-front : (ranges : List FrameRange) (i : ℕ) (d : FrameRange) (start : ℕ) → i < length ranges → AreFrameRangesFrom start (drop i ranges) →
+    let range : FrameRange = get_or ranges i d in (start ≤ range.first) × (range.first + range.count ≤ 2 ^ 28) × AreFrameRangesFrom (range.first + range.count) (drop (i + 1) ranges)
+ranges-front ranges i d start low ok = subst (AreFrameRangesFrom start) (drop_more ranges i d low) ok
+
+pub frames_in-front : (ranges : List FrameRange) (i : ℕ) (d : FrameRange) → i < length ranges → frames_in (drop i ranges) ≡ numbers (get_or ranges i d).first (get_or ranges i d).count ++ frames_in (drop (i + 1) ranges)
+frames_in-front ranges i d low = ap frames_in (drop_more ranges i d low)
+
+pub AreFrameRanges-weaker : (ranges : List FrameRange) (low high : ℕ) → low ≤ high → AreFrameRangesFrom high ranges → AreFrameRangesFrom low ranges
+AreFrameRanges-weaker [] low high le ok = tt
+AreFrameRanges-weaker (x ∷ xs) low high le ok = (let h : high ≤ x.first = ok.0 in omega arith, ok.1, ok.2)

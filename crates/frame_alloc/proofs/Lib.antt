@@ -1,0 +1,10 @@
+pub mod AscendingFrames
+pub mod CutSteps
+pub mod Cuts
+pub mod ExtentLemmas
+pub mod FreeFrames
+pub mod Fronts
+pub mod GroupLemmas
+pub mod Instances
+pub mod PairLemmas
+pub mod Without

@@ -1,0 +1,25 @@
+use Rattle.std.proofs.Common.{◌+◌, ◌++◌, ℕ, List, get_or, drop, sym, ap, ◌∙◌, append_assoc}
+use Rattle.dl_base.specs.Consecutive.{numbers}
+use Rattle.dl_base.specs.declared.ranges.FrameRange.{FrameRange}
+use Rattle.frame_alloc.specs.Frames.{frames_in}
+use Rattle.frame_alloc.specs.Extents.{frames_of, end_from}
+use Rattle.frame_alloc.proofs.ExtentLemmas.{ranges-front, frames_in-front, AreFrameRanges-weaker}
+use Rattle.frame_alloc.proofs.extents.extents_of.Goals as goal
+
+pub loop-range-preserved : goal.loop-range-preserved
+loop-range-preserved c =
+    let d : FrameRange = record { first = 0; count = 0 } in
+    let ranges = c.args.ranges.now in
+    let i = c.loop-range.range-index in
+    let rest : List ℕ = frames_in (drop (i + 1) ranges) in
+    let before = c.loop-range.extents.items in
+    let front = ranges-front ranges i d (end_from 0 before) c.loop-range-test.true c.loop-range.invariant.after in
+    record {
+      frames =
+          ap (λ xs. xs ++ rest) c.in_ok-add_range.ensures.frames
+          ∙ append_assoc (frames_of before) (numbers (get_or ranges i d).first (get_or ranges i d).count) rest
+          ∙ ap (λ xs. frames_of before ++ xs) (sym (frames_in-front ranges i d c.loop-range-test.true))
+          ∙ c.loop-range.invariant.frames;
+      apart = c.in_ok-add_range.ensures.apart;
+      after = AreFrameRanges-weaker (drop (i + 1) ranges) _ _ c.in_ok-add_range.ensures.end front.2;
+    }
