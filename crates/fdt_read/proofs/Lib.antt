@@ -1,0 +1,16 @@
+pub mod Opened
+pub mod Formed
+pub mod Progress
+pub mod Fine
+pub mod Counted
+pub mod Steps
+pub mod Kept
+pub mod Turns
+pub mod Texts
+pub mod Reserved
+pub mod OneTree
+pub mod Passing
+pub mod Accepted
+pub mod Reading
+pub mod Decided
+pub mod Instances

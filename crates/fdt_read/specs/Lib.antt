@@ -1,0 +1,9 @@
+pub mod Header
+pub mod Reservations
+pub mod Tokens
+pub mod Spelling
+pub mod Refusals
+pub mod Spells
+pub mod Laws
+pub mod Found
+pub mod Built
