@@ -1,0 +1,75 @@
+-- What the words of the tables mean.
+use Rattle.std.proofs.Common.{◌≡◌, ℕ, ◌+◌, ◌*◌, ◌/◌, ◌^◌, ◌<◌, Some, None, refl, sym, ap, subst, ◌∙◌, arith}
+use Rattle.dl_base.specs.Maps.{Target, attributes}
+use Rattle.dl_base.specs.declared.ranges.Kind.{Kind}
+use Rattle.dl_base.specs.declared.ranges.Kind.TheVariants.{Ram, Device, Shared}
+use Rattle.stage2_walk.specs.Descriptors.{bits, frame_field, attribute_field, meaning}
+use Rattle.stage2_walk.specs.declared.descriptor.Meaning.TheVariants.{Table, Leaf}
+use Rattle.stage2_tables.specs.Words.{page_word, table_word}
+use Rattle.stage2_tables.specs.Tables.{table_named, table_in, goal_named, goal_in}
+use Rattle.stage2_tables.specs.Filling.{HasNoLeaf, IsNoLeaf}
+
+from_fields-page : (word frame attr : ℕ) → bits word 0 1 ≡ 1 → bits word 1 1 ≡ 1 → frame_field word ≡ frame → attribute_field word ≡ attr → meaning 3 word ≡ Leaf frame attr
+unfolding meaning
+from_fields-page word frame attr valid table at attrs =
+    let whole : frame_field word / 1 * 1 ≡ frame = omega arith in
+    rw (valid, table) (ap (λ (f : ℕ). Leaf f (attribute_field word)) whole ∙ ap (λ (a : ℕ). Leaf frame a) attrs)
+
+page_fields : (frame : ℕ) (kind : Kind) → frame < 2 ^ 28 → let word : ℕ = frame * 2 ^ 12 + attributes kind + 3 in (bits word 0 1 ≡ 1) × (bits word 1 1 ≡ 1) × (frame_field word ≡ frame) × (attribute_field word ≡ attributes kind)
+page_fields frame Ram low = (omega arith, omega arith, omega arith, omega arith)
+page_fields frame Device low = (omega arith, omega arith, omega arith, omega arith)
+page_fields frame Shared low = (omega arith, omega arith, omega arith, omega arith)
+
+-- a page word means its frame with the attributes of its kind
+pub meaning-page_word : (target : Target) → target.frame < 2 ^ 28 → meaning 3 (page_word target) ≡ Leaf target.frame (attributes target.kind)
+meaning-page_word target low =
+    let f = page_fields target.frame target.kind low in
+    from_fields-page (target.frame * 2 ^ 12 + attributes target.kind + 3) target.frame (attributes target.kind) f.0 f.1 f.2 f.3
+
+table_fields : (frame : ℕ) → frame < 2 ^ 28 → let word : ℕ = frame * 2 ^ 12 + 3 in (bits word 0 1 ≡ 1) × (bits word 1 1 ≡ 1) × (frame_field word ≡ frame)
+table_fields frame low = (omega arith, omega arith, omega arith)
+
+-- a table word means its frame
+pub meaning-table_word-first : (frame : ℕ) → frame < 2 ^ 28 → meaning 1 (table_word frame) ≡ Table frame
+unfolding meaning
+meaning-table_word-first frame low = let f = table_fields frame low in rw (f.0, f.1) (ap (λ (g : ℕ). Table g) f.2)
+
+pub meaning-table_word-second : (frame : ℕ) → frame < 2 ^ 28 → meaning 2 (table_word frame) ≡ Table frame
+unfolding meaning
+meaning-table_word-second frame low = let f = table_fields frame low in rw (f.0, f.1) (ap (λ (g : ℕ). Table g) f.2)
+
+pub table_named-first : (frame : ℕ) → frame < 2 ^ 28 → table_named 1 (Some (table_word frame)) ≡ Some frame
+table_named-first frame low = ap table_in (meaning-table_word-first frame low)
+
+pub table_named-second : (frame : ℕ) → frame < 2 ^ 28 → table_named 2 (Some (table_word frame)) ≡ Some frame
+table_named-second frame low = ap table_in (meaning-table_word-second frame low)
+
+pub goal_named-page : (target : Target) → target.frame < 2 ^ 28 → goal_named (Some (page_word target)) ≡ Some (target.frame, attributes target.kind)
+goal_named-page target low = ap goal_in (meaning-page_word target low)
+
+pub no_leaf-first : (frame : ℕ) → frame < 2 ^ 28 → HasNoLeaf 1 (Some (table_word frame))
+no_leaf-first frame low = subst IsNoLeaf (sym (meaning-table_word-first frame low)) tt
+
+pub no_leaf-second : (frame : ℕ) → frame < 2 ^ 28 → HasNoLeaf 2 (Some (table_word frame))
+no_leaf-second frame low = subst IsNoLeaf (sym (meaning-table_word-second frame low)) tt
+
+-- a blank word names nothing
+pub table_named-blank : table_named 2 (Some 0) ≡ None
+unfolding meaning
+table_named-blank = refl
+
+pub table_named-blank_first : table_named 1 (Some 0) ≡ None
+unfolding meaning
+table_named-blank_first = refl
+
+pub goal_named-blank : goal_named (Some 0) ≡ None
+unfolding meaning
+goal_named-blank = refl
+
+pub no_leaf-blank : HasNoLeaf 2 (Some 0)
+unfolding meaning
+no_leaf-blank = tt
+
+pub no_leaf-blank_first : HasNoLeaf 1 (Some 0)
+unfolding meaning
+no_leaf-blank_first = tt

@@ -1,0 +1,14 @@
+pub mod Decoding
+pub mod WordSteps
+pub mod FrameFacts
+pub mod TreeSteps
+pub mod FillingSteps
+pub mod WalkOfTables
+pub mod RangeSteps
+pub mod BlankTables
+pub mod CountSteps
+pub mod DrawLemmas
+pub mod LengthWithout
+pub mod NumberCounts
+pub mod RegionCounts
+pub mod Instances

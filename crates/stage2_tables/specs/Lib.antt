@@ -1,0 +1,9 @@
+pub mod Words
+pub mod Translation
+pub mod Tables
+pub mod Filling
+pub mod PageGoals
+pub mod Counts
+pub mod Draws
+pub mod Faults
+pub mod PageTables
