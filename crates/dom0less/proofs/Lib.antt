@@ -1,0 +1,9 @@
+pub mod SiblingLemmas
+pub mod NodeLemmas
+pub mod NodeTurns
+pub mod PartLemmas
+pub mod PlaceLemmas
+pub mod Held
+pub mod Taken
+pub mod Due
+pub mod Described

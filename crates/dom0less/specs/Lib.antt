@@ -1,0 +1,14 @@
+pub mod Nodes
+pub mod Siblings
+pub mod Guests
+pub mod Form
+pub mod Verdicts
+pub mod Found
+pub mod Candidates
+pub mod Images
+pub mod Lines
+pub mod Words
+pub mod Endings
+pub mod Job
+pub mod Headline
+pub mod Stops
