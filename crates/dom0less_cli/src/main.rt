@@ -8,6 +8,7 @@ mod tests;
 
 use crate::folder::Folder;
 use crate::stream::Stream;
+use dl_base::{Sink, Status};
 use std::alloc::AllocError;
 use std::env::Env;
 use std::io;
@@ -22,12 +23,28 @@ fn words(rt: &(impl Env + AllocGlobal)) -> io::Result<Vec<String>> {
     Ok(words)
 }
 
-fn main(rt: HostRuntime) -> io::Result<ExitCode> {
-    let words = words(&rt)?;
+/// The status of a run whose words could not be read, and its line: memory ran out, or a word is not UTF-8.
+fn unread_words(error: &io::Error) -> (Status, &'static str) {
+    if error.kind() == io::ErrorKind::OutOfMemory {
+        (Status::Memory, "dom0less: out of memory\n")
+    } else {
+        (Status::Words, "dom0less: usage\n")
+    }
+}
+
+fn main(rt: HostRuntime) -> ExitCode {
+    let mut err = Stream::new(rt.stderr());
+    let words = match words(&rt) {
+        Ok(words) => words,
+        Err(error) => {
+            let (status, line) = unread_words(&error);
+            let _ = err.put(line.as_bytes());
+            return ExitCode::from(status.code());
+        }
+    };
     let mut files = Folder::new(&rt);
     let mut outs = Folder::new(&rt);
     let mut out = Stream::new(rt.stdout());
-    let mut err = Stream::new(rt.stderr());
     let status = dom0less::run(
         rt.alloc(),
         &words,
@@ -36,5 +53,5 @@ fn main(rt: HostRuntime) -> io::Result<ExitCode> {
         &mut out,
         &mut err,
     );
-    Ok(ExitCode::from(status.code()))
+    ExitCode::from(status.code())
 }
