@@ -1,0 +1,25 @@
+use Rattle.std.proofs.Common.{◌≡◌, ◌<◌, length, arith, ap, sym}
+use Rattle.std.proofs.lemmas.Bool.Decides.{nat_tests}
+use Rattle.ib_config.specs.Rules.{words_of, port_groups}
+use Rattle.ib_config.specs.Words.{after_word}
+use Rattle.ib_config.proofs.WordLemmas.{groups_start, words_same, at_first, at_word, shorter_3, ports_on, ports_bad}
+use Rattle.ib_config.proofs.groups.read_ports.Goals as goal
+
+pub loop-rest-init : goal.loop-rest-init
+loop-rest-init c = record {
+  same = groups_start _ _ _ c.new-ports.ensures (ap port_groups (words_same c.args.text.now c.skip_spaces-rest.result.now c.skip_spaces-rest.ensures));
+  at = at_first c.args.text.now c.skip_spaces-rest.result.now c.skip_spaces-rest.ensures;
+}
+
+pub returns-in-None : goal.returns-in-None
+returns-in-None c = sym (ports_bad _ c.loop-rest.ports c.loop-rest.rest.now c.port_at-port.result.0 c.loop-rest.invariant.same c.loop-rest.invariant.at (grind (arith, nat_tests)) c.port_at-port.ensures.group c.in-None.is)
+
+pub loop-rest-smaller : goal.loop-rest-smaller
+loop-rest-smaller c = shorter_3 c.loop-rest.rest.now c.port_at-port.result.1.now c.port_at-port.ensures.rest (grind (arith, nat_tests))
+
+pub loop-rest-preserved : goal.loop-rest-preserved
+loop-rest-preserved c = record {
+  same = ports_on _ c.loop-rest.ports c.push.new.self c.loop-rest.rest.now c.port_at-port.result.1.now c.port_at-port.result.0 _ c.loop-rest.invariant.same c.loop-rest.invariant.at
+      (grind (arith, nat_tests)) c.port_at-port.ensures.group c.port_at-port.ensures.rest c.in-Some.is c.in_ok-push-in-Some.ensures.ok;
+  at = at_word (after_word (after_word c.loop-rest.rest.now)) c.port_at-port.result.1.now c.port_at-port.ensures.rest;
+}

@@ -1,0 +1,15 @@
+use Rattle.std.proofs.Common.{◌≡◌, length}
+use Rattle.ib_config.specs.Rules.{words_of, shm_groups}
+use Rattle.ib_config.specs.Words.{onto}
+use Rattle.ib_config.proofs.WordLemmas.{IsAtWord}
+use Rattle.ib_config.proofs.groups.read_regions.Given as goal
+
+-- the groups so far, and then those of the rest
+abbrev pub invariant-loop-rest : goal.invariant-loop-rest
+invariant-loop-rest l = record {
+  same : shm_groups (words_of l.text) ≡ onto l.regions (shm_groups (words_of l.rest));
+  at : IsAtWord l.rest;
+}
+
+abbrev pub decreases-loop-rest : goal.decreases-loop-rest
+decreases-loop-rest l = length l.rest

@@ -1,0 +1,8 @@
+use Rattle.std.proofs.Common.{◌≡◌, map}
+use Rattle.dl_base.specs.Consecutive.{numbers}
+use Rattle.ib_config.specs.Scan.{held}
+use Rattle.ib_config.specs.Settings.{ports_at}
+use Rattle.ib_config.proofs.guests.all_ports.Given as goal
+
+abbrev pub invariant-loop-guest : goal.invariant-loop-guest
+invariant-loop-guest l = l.ports ≡ map (ports_at (held l.assigned)) (numbers 0 l.guest)
