@@ -4,3 +4,6 @@ pub mod Edits
 pub mod Links
 pub mod Names
 pub mod Instances
+pub mod Order
+pub mod Walking
+pub mod PhandleLemmas

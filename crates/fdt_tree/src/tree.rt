@@ -14,6 +14,9 @@ use sqlite_items::Items;
 use std::alloc::{AllocError, Global};
 use std::marker::Model;
 
+// The deepest that a node may stand, the root standing at depth 1.
+const DEPTH_LIMIT: usize = 32;
+
 /// A device tree (Devicetree Specification 0.4, 2.2): ordered children, ordered properties, and a depth of at most 32.
 #[derive(Drop)]
 pub struct Tree {
@@ -82,7 +85,7 @@ impl Tree {
     {
         let above = &self.nodes[parent.number];
         let depth = above.depth;
-        if depth == 32 {
+        if depth == DEPTH_LIMIT {
             return Err(EditFault::Deep);
         }
         let position = above.children.len();

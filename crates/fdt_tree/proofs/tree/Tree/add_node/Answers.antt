@@ -6,16 +6,16 @@ use Rattle.fdt_tree.proofs.Links.{reads, after_link, child_of, length-last}
 use Rattle.fdt_tree.proofs.tree.Tree.add_node.Goals as goal
 use Rattle.fdt_tree.proofs.tree.Tree.add_node.Goals.{in-Ok-link, in-Err-link}
 
-pub returns-then-depth-eq32-clause-refused : goal.returns-then-depth-eq32-clause-refused
-returns-then-depth-eq32-clause-refused c =
-    let f = reads _ _ _ _ _ _ c.self.invariant c.self.view_is c.parent.view_is c.requires.live c.index-above.ensures in inr (ap (λ b. cond b (Err Deep) (Ok (with_child c.args.self.now (place_of c.args.self.now c.args.parent) c.args.name.now))) (eq-eqb _ _ (sym f.depth_of_node ∙ c.if-depth-eq32.true)))
+pub returns-then-depth-eq-DEPTH_LIMIT-clause-refused : goal.returns-then-depth-eq-DEPTH_LIMIT-clause-refused
+returns-then-depth-eq-DEPTH_LIMIT-clause-refused c =
+    let f = reads _ _ _ _ _ _ c.self.invariant c.self.view_is c.parent.view_is c.requires.live c.index-above.ensures in inr (ap (λ b. cond b (Err Deep) (Ok (with_child c.args.self.now (place_of c.args.self.now c.args.parent) c.args.name.now))) (eq-eqb _ _ (sym f.depth_of_node ∙ c.if-depth-eq-DEPTH_LIMIT.true)))
 
 pub overflow_add-node : goal.overflow_add-node
 overflow_add-node c =
     let f = reads _ _ _ _ _ _ c.self.invariant c.self.view_is c.parent.view_is c.requires.live c.index-above.ensures in omega (arith, f.shallow)
 
 linked_in : (c : goal.Joined-link) → c.link.new.nodes.items ≡ linked c.self.inside.nodes.items c.parent.inside.number (record { parent = c.parent.inside.number; position = c.len-position.result; depth = c.index-above.result.now.depth + 1; name = c.append.new.self; properties = c.new.result; children = c.new-2.result }) → IsLinked (document c.link.new.nodes.items) c.link.new.nodes.items × (document c.link.new.nodes.items ≡ with_node c.args.self.now (place_of c.args.self.now c.args.parent) c.append.new.self c.new.result)
-linked_in c e = after_link _ _ _ _ _ _ _ c.self.invariant c.self.view_is c.parent.view_is c.requires.live c.index-above.ensures e refl refl c.if-depth-eq32.false c.new-2.ensures c.len-position.ensures
+linked_in c e = after_link _ _ _ _ _ _ _ c.self.invariant c.self.view_is c.parent.view_is c.requires.live c.index-above.ensures e refl refl c.if-depth-eq-DEPTH_LIMIT.false c.new-2.ensures c.len-position.ensures
 
 pub invariant_of-self : goal.invariant_of-self
 invariant_of-self c =
@@ -27,7 +27,7 @@ invariant_of-self c =
 pub returns-clause-ok : goal.returns-clause-ok
 returns-clause-ok c =
     let f = reads _ _ _ _ _ _ c.self.invariant c.self.view_is c.parent.view_is c.requires.live c.index-above.ensures in elim c.match-link.branch [
-      | in-Ok-link w ↦ rw w.result-is (child_of c.args.self.now _ c.args.parent c.args.name.now c.append.new.self c.new.result (λ z. c.if-depth-eq32.false (f.depth_of_node ∙ z)) (linked_in c w.in-Ok-link.ensures.ok).1 (c.in-Ok.ensures.ok ∙ ap (λ z. z ++ c.args.name.now) c.new-held.ensures) c.new.ensures)
+      | in-Ok-link w ↦ rw w.result-is (child_of c.args.self.now _ c.args.parent c.args.name.now c.append.new.self c.new.result (λ z. c.if-depth-eq-DEPTH_LIMIT.false (f.depth_of_node ∙ z)) (linked_in c w.in-Ok-link.ensures.ok).1 (c.in-Ok.ensures.ok ∙ ap (λ z. z ++ c.args.name.now) c.new-held.ensures) c.new.ensures)
       | in-Err-link w ↦ rw w.result-is tt
     ]
 
