@@ -1,0 +1,10 @@
+pub mod Strings
+pub mod Blocks
+pub mod Flattened
+pub mod Laws
+pub mod Left
+pub mod Meaning
+pub mod Walk
+pub mod Names
+pub mod Held
+pub mod Used

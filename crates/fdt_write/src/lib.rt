@@ -1,0 +1,15 @@
+//! The writer of flattened device trees (Devicetree Specification 0.4, chapter 5): a tree has one canonical row of bytes.
+#![tactic(auto)]
+
+mod blocks;
+mod fault;
+mod flat;
+pub mod laws;
+mod names;
+mod sizes;
+#[cfg(test)]
+mod tests;
+mod tree_tokens;
+
+pub use fault::WriteFault;
+pub use flat::write;
