@@ -7,3 +7,4 @@ pub mod Held
 pub mod Taken
 pub mod Due
 pub mod Described
+pub mod OneOutcome

@@ -11,4 +11,5 @@ pub mod Words
 pub mod Endings
 pub mod Job
 pub mod Headline
+pub mod Laws
 pub mod Stops

@@ -4,6 +4,7 @@
 mod form;
 mod guest;
 mod image;
+pub mod laws;
 mod lines;
 mod nodes;
 mod outputs;

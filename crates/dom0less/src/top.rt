@@ -1,11 +1,12 @@
 // The top call.
-ghost use Rattle.std.specs.Prelude.{◌≡◌, ◌≢◌, ◌⊎◌, ◌↔◌, ◌∷◌, [], IsNone, map, string_bytes, codes};
+ghost use Rattle.std.specs.Prelude.{◌≡◌, ◌≢◌, ◌⊎◌, ◌↔◌, ◌∷◌, [], IsNone, IfSome, map, string_bytes, codes};
 ghost use Rattle.dl_base.specs.Outside.{Rose, and_bytes, and_file};
 ghost use Rattle.dom0less.specs.Lines.{line, memory_line, file_line};
 ghost use Rattle.dom0less.specs.Endings.{Refuses, Builds, Said, and_files, TookUpTo};
 ghost use Rattle.dom0less.specs.Words.{settings};
-ghost use Rattle.dom0less.specs.Job.{CallsFor};
+ghost use Rattle.dom0less.specs.Job.{IsJob, CallsFor};
 ghost use Rattle.dom0less.specs.Headline.{IsDescribedImage};
+ghost use Rattle.dom0less.specs.Laws.{AnswersUnless};
 
 use crate::lines::say;
 use crate::outputs::write_all;
@@ -72,6 +73,9 @@ pub fn run<F: Files, O: Outs, S: Sink, E: Sink>(
         × Rose (O.faults outs.old) (O.faults outs.new)
         × TookUpTo (O.written outs.old) (O.written outs.new) outputs name
         × (out.new ≡ out.old) }
+
+    // Where the files tell what they hold and no read failed, the answer is what they call for, or want of memory.
+    ensures exact { IfSome (F.held files.old) (λ held. (outcome : _) → IsJob (map string_bytes words.now) held outcome → AnswersUnless (Rose (F.faults files.old) (F.faults files.new)) result outcome) }
 
     // Every other answer leaves the outputs and `out` as they were.
     ensures outs_kept { result ≢ Status.Built → result ≢ Status.Write → outs.new ≡ outs.old }

@@ -4,6 +4,7 @@ use Rattle.dl_base.specs.Outside.{File}
 use Rattle.dom0less.specs.Endings.{Outcome, Builds, and_files}
 use Rattle.dom0less.proofs.Held.{words_call}
 use Rattle.dom0less.proofs.Described.{described}
+use Rattle.dom0less.proofs.OneOutcome.{exact_build, exact_stopped}
 use Rattle.dom0less.proofs.Taken.{and_bytes-none}
 use Rattle.dom0less.proofs.top.run.Goals as goal
 
@@ -43,3 +44,14 @@ returns-in-Ok-clause-write g c = λ failed.
       written.2,
       refl,
     )
+
+pub returns-in-Ok-clause-exact : goal.returns-in-Ok-clause-exact
+returns-in-Ok-clause-exact g c =
+    let outputs : List File = (codes "domU0.s2", c.in-Ok.build.image) ∷ [] in
+    exact_build (map string_bytes c.args.words.now) _ _ outputs [] _
+    (words_call (map string_bytes c.args.words.now) _ c.in-Some.name.now (Builds outputs []) c.in-Some.ensures c.in-Ok.ensures.built) c.write_all.ensures.only
+
+pub returns-in-Err-Because-clause-exact : goal.returns-in-Err-Because-clause-exact
+returns-in-Err-Because-clause-exact g c =
+    exact_stopped (map string_bytes c.args.words.now) _ _ c.in-Some.name.now c.in-Some.ensures _ _ c.prepare.result c.in-Err-Because.field-0 c.in-Err-Because.status c.in-Err-Because.text
+    c.prepare.ensures.stopped c.in-Err-Because.is c.in-Err-Because.field-0-is
