@@ -1,14 +1,14 @@
 -- Assignments one after the other, and what they come to.
-use Rattle.std.proofs.Common.{◌≡◌, ℕ, ◌+◌, ◌<◌, ◌==◌, Bool, true, false, cond, not, ◌&&◌, List, [], ◌∷◌, ◌++◌, length, drop, refl, ap, sym, ◌∙◌, Ok, Err, Some, None, if◌then◌else◌, append_assoc, append-nil, arith, filter, is_some, fold, map}
-use Rattle.std.specs.Prelude.{Result, Option, IsSome}
-use Rattle.std.specs.Option.{option_or, option_map_or}
+use Rattle.std.proofs.Common.{◌≡◌, ℕ, ◌+◌, ◌==◌, Bool, true, false, cond, not, ◌&&◌, List, [], ◌∷◌, ◌++◌, length, drop, refl, ap, sym, ◌∙◌, Ok, Err, Some, None, if◌then◌else◌, append_assoc, append-nil, arith, filter, is_some, fold, map}
+use Rattle.std.specs.Prelude.{Result, Option}
+use Rattle.std.specs.Option.{option_or}
 use Rattle.std.specs.List.{slice_split, filter_map}
 use Rattle.std.specs.Map.{lookup, keys_of}
 use Rattle.std.specs.Str.{is_utf8, chars}
 use Rattle.std.specs.Str.Lines.{strip_carriage_return}
-use Rattle.indexmap.specs.IndexMap.{IndexMap, get, insert_entry, Updates}
+use Rattle.indexmap.specs.IndexMap.{IndexMap, insert_entry}
 use Rattle.indexmap.proofs.CallerLemmas.{insert_entry-new, keys-insert_entry-present}
-use Rattle.ib_config.specs.Runs.{run_of, after_run, first_fault}
+use Rattle.ib_config.specs.Runs.{run_of, after_run}
 use Rattle.ib_config.specs.Settings.{◌>>=◌}
 use Rattle.ib_config.specs.Line.{Assignment, lines_of, line_fault, assignment_of, assignments_of, first_line_fault, says_nothing}
 use Rattle.ib_config.specs.Variables.{Assigned, assigned_in, last_text, assigned_keys, same_key}

@@ -1,8 +1,7 @@
 -- A line's first fault, read part after part.
-use Rattle.std.proofs.Common.{◌≡◌, ℕ, Bool, true, false, cond, not, ◌&&◌, List, [], ◌∷◌, refl, ap, sym, ◌∙◌, Ok, Err, Some, None}
-use Rattle.std.specs.Prelude.{Result, Option, option_map}
+use Rattle.std.proofs.Common.{◌≡◌, ℕ, Bool, true, false, cond, not, ◌&&◌, List, [], ◌∷◌, refl, ap, ◌∙◌, Ok, Err, Some, None}
+use Rattle.std.specs.Prelude.{Result, Option}
 use Rattle.std.specs.Str.{is_utf8}
-use Rattle.std.specs.Str.Parse.{digits_value}
 use Rattle.ib_config.specs.Runs.{first_fault}
 use Rattle.ib_config.specs.Settings.{◌>>=◌}
 use Rattle.ib_config.specs.Line.{Assignment, body_faults, body_of, says_nothing, line_fault, assignment_of, has_bracket, has_index, has_name, after_name, name_of, value_part, value_of_part, is_open, is_plain_part, is_unsupported, index_of, assigned_by}

@@ -1,5 +1,5 @@
 -- A configuration is read in two steps.
-use Rattle.std.proofs.Common.{◌≡◌, ℕ, List, refl, Ok, Err, Some, None}
+use Rattle.std.proofs.Common.{◌≡◌, ℕ, List, refl, Err, Some, None}
 use Rattle.std.specs.Prelude.{Option}
 use Rattle.std.specs.Option.{option_map_or}
 use Rattle.ib_config.specs.Line.{lines_of, first_line_fault, assignments_of}

@@ -1,8 +1,8 @@
 -- Guests one after the other, and their port groups in one table.
-use Rattle.std.proofs.Common.{◌≡◌, ℕ, zero, suc, ◌+◌, ◌-◌, ◌<◌, ◌≤◌, ◌==◌, ◌&&◌, Bool, true, false, cond, List, [], ◌∷◌, ◌++◌, length, map, refl, sym, ◌∙◌, ap, arith, Some, None, Ok, Err, inl, inr, append_assoc, append-nil, slice_get, get_or}
-use Rattle.std.specs.Prelude.{Option, Result, nat_lt, if◌then◌else◌}
-use Rattle.std.specs.List.{list_all, list_any, range_with_len}
-use Rattle.std.proofs.lemmas.Bool.{and_parts, cases_Bool}
+use Rattle.std.proofs.Common.{◌≡◌, ℕ, zero, suc, ◌+◌, ◌-◌, ◌<◌, ◌≤◌, List, [], ◌∷◌, ◌++◌, length, map, refl, sym, ◌∙◌, ap, arith, None, Ok, Err, inl, inr, append_assoc, append-nil, slice_get, get_or}
+use Rattle.std.specs.Prelude.{Result, nat_lt}
+use Rattle.std.specs.List.{list_all}
+use Rattle.std.proofs.lemmas.Bool.{cases_Bool}
 use Rattle.std.proofs.lemmas.Bool.Decides.{nat_tests}
 use Rattle.dl_base.specs.Consecutive.{numbers}
 use Rattle.dl_base.proofs.NumberLists.{numbers-zero, numbers-cons, length-map-numbers, get_or-map-numbers, map-numbers-more, length-numbers}

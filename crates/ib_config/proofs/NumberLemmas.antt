@@ -1,6 +1,6 @@
 -- Words that are no text are no numbers.
-use Rattle.std.proofs.Common.{◌≡◌, ℕ, ◌<◌, ◌≤◌, ◌==◌, ◌&&◌, ◌||◌, Bool, true, false, cond, not, List, [], ◌∷◌, length, drop, refl, sym, ◌∙◌, ap, arith, Ok, Err, Some, None, inl, inr, ◌⊎◌, true≢false}
-use Rattle.std.specs.Prelude.{nat_lt, Option, if◌then◌else◌}
+use Rattle.std.proofs.Common.{◌≡◌, ℕ, ◌≤◌, ◌==◌, Bool, true, false, List, [], ◌∷◌, length, drop, refl, sym, ◌∙◌, arith, None, inl, inr, ◌⊎◌, true≢false}
+use Rattle.std.specs.Prelude.{nat_lt}
 use Rattle.std.specs.Result.{result_ok}
 use Rattle.std.specs.List.{list_all}
 use Rattle.std.specs.Char.{digit_value}
@@ -8,7 +8,7 @@ use Rattle.std.specs.Str.{is_utf8}
 use Rattle.std.proofs.lemmas.Bool.{and_parts, cases_Bool}
 use Rattle.std.proofs.lemmas.Bool.Decides.{nat_tests}
 use Rattle.std.proofs.lemmas.Str.{is_utf8-from_IsUtf8, IsUtf8-from_is_utf8}
-use Rattle.dl_base.specs.NumberTexts.{is_hexadecimal, number_in, number_of}
+use Rattle.dl_base.specs.NumberTexts.{is_hexadecimal, number_in}
 use Rattle.ib_config.specs.Rules.{number}
 use Rattle.ib_config.proofs.TextLemmas.{class_is_text}
 

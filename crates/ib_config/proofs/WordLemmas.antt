@@ -1,11 +1,11 @@
 -- Words of a text, one after the other.
-use Rattle.std.proofs.Common.{◌≡◌, ℕ, ◌+◌, ◌<◌, ◌≤◌, ◌==◌, ◌&&◌, ◌||◌, Bool, true, false, cond, not, List, [], ◌∷◌, ◌++◌, length, drop, refl, sym, ◌∙◌, ap, arith, Some, None, inl, inr, true≢false, filter, append_assoc, append-nil, ◌^◌, ◌-◌}
-use Rattle.std.specs.Prelude.{Option, option_map, nat_le}
+use Rattle.std.proofs.Common.{◌≡◌, ℕ, ◌<◌, ◌≤◌, ◌==◌, ◌&&◌, Bool, true, false, not, List, [], ◌∷◌, ◌++◌, length, refl, sym, ◌∙◌, ap, arith, Some, None, true≢false, filter, append_assoc, append-nil, ◌^◌, ◌-◌}
+use Rattle.std.specs.Prelude.{Option, nat_le}
 use Rattle.std.specs.List.{list_all, slice_split}
 use Rattle.std.specs.Str.{is_utf8}
-use Rattle.std.proofs.lemmas.Bool.{and_parts, cases_Bool}
+use Rattle.std.proofs.lemmas.Bool.{and_parts}
 use Rattle.std.proofs.lemmas.Bool.Decides.{nat_tests}
-use Rattle.ib_config.specs.Runs.{run_of, after_run, first_is, is_empty}
+use Rattle.ib_config.specs.Runs.{after_run, first_is, is_empty}
 use Rattle.ib_config.specs.Line.{is_letter, is_digit}
 use Rattle.ib_config.specs.Rules.{◌>>=◌, words_of, number, number_between, range_of, pairs, region_of, shm_groups, port_of, port_groups, is_shm_id, is_id_byte, shm_id}
 use Rattle.ib_config.specs.Words.{is_space, not_space, from_word, word_at, after_word, onto}

@@ -1,7 +1,6 @@
 -- The steps in which the code reads a file: a line part after part, and its assignments one after the other. No public contract cites these.
-use Rattle.std.specs.Prelude.{ℕ, Bool, not, List, Option, Some, None, option_map, [], ◌∷◌, Result, Ok, Err, ◌&&◌, ◌==◌, if◌then◌else◌}
+use Rattle.std.specs.Prelude.{ℕ, Bool, not, List, Option, Some, None, [], ◌∷◌, Result, Ok, Err, ◌&&◌, ◌==◌, if◌then◌else◌}
 use Rattle.std.specs.Option.{option_map_or}
-use Rattle.std.specs.Str.Parse.{digits_value}
 use Rattle.std.specs.Prelude.{◌++◌, is_some, fold, drop}
 use Rattle.std.specs.Str.Lines.{strip_carriage_return}
 use Rattle.std.specs.Map.{lookup, keys_of}

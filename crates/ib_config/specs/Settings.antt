@@ -1,9 +1,8 @@
 -- What a configuration says: each variable's value, or the first fault, and the names that have no effect.
-use Rattle.std.specs.Prelude.{◌≡◌, ℕ, ◌+◌, Bool, false, not, ◌&&◌, ◌||◌, List, [], ◌∷◌, ◌++◌, map, Option, Some, None, Result, Ok, Err, if◌then◌else◌, codes, decimal, filter, is_some, nat_lt, bytes_eq}
+use Rattle.std.specs.Prelude.{◌≡◌, ℕ, Bool, false, not, ◌&&◌, ◌||◌, List, [], ◌∷◌, ◌++◌, map, Some, None, Result, Ok, Err, if◌then◌else◌, codes, decimal, filter, is_some, nat_lt, bytes_eq}
 use Rattle.std.specs.List.{list_any}
 use Rattle.std.specs.Option.{option_map_or}
 use Rattle.dl_base.specs.Consecutive.{numbers}
-use Rattle.ib_config.specs.Runs.{is_empty}
 use Rattle.ib_config.specs.Line.{lines_of, first_line_fault, assignments_of}
 use Rattle.ib_config.specs.Rules.{ports_of}
 use Rattle.ib_config.specs.Variables as table

@@ -1,5 +1,5 @@
 -- A text word by word: the word that it begins with, and the text from its next word on.
-use Rattle.std.specs.Prelude.{ℕ, Bool, not, List, [], ◌∷◌, ◌++◌, Option, option_map, ◌==◌}
+use Rattle.std.specs.Prelude.{ℕ, Bool, not, List, ◌++◌, Option, option_map, ◌==◌}
 use Rattle.ib_config.specs.Runs.{run_of, after_run}
 
 -- words are separated by spaces alone

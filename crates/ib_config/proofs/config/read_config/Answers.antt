@@ -1,4 +1,4 @@
-use Rattle.std.proofs.Common.{rules, ◌≡◌, ◌∙◌, Ok, Err, refl}
+use Rattle.std.proofs.Common.{rules, ◌≡◌, ◌∙◌, Err, refl}
 use Rattle.ib_config.specs.Scan.{held, file_read}
 use Rattle.ib_config.specs.Settings.{settings_of, config_of}
 use Rattle.ib_config.proofs.ConfigLemmas.{config_is}

@@ -1,4 +1,4 @@
-use Rattle.std.proofs.Common.{◌≡◌, ◌∙◌, sym, arith, refl}
+use Rattle.std.proofs.Common.{◌∙◌, sym, arith, refl}
 use Rattle.ib_config.specs.Scan.{held}
 use Rattle.ib_config.specs.Settings.{is_tested, shown_key, unused_names}
 use Rattle.ib_config.proofs.UnusedLemmas.{names_start, names_skip, names_add, names_end}
