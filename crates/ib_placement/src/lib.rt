@@ -1,0 +1,10 @@
+//! Where the files of a configuration are loaded: one after the other, each at a multiple of 2 MiB.
+#![tactic(auto)]
+
+mod order;
+mod places;
+#[cfg(test)]
+mod tests;
+
+pub use order::files;
+pub use places::{FilePlace, PlaceFault, Places, place};
