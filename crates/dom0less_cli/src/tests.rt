@@ -7,7 +7,7 @@ use std::test::Fail;
 #[test]
 fn adapters_write_read_and_miss_real_files(rt: HostRuntime) -> Result<(), Fail> {
     let id = std::process::id(rt.process());
-    let name = format!(in rt.alloc(); "/tmp/dom0less-adapters-{id}")?;
+    let name = format!(in rt.alloc(); "adapters-{id}")?;
     let mut folder = Folder::new(&rt);
     assert_eq!(rt;
         folder.read(rt.alloc(), name.as_str(), 4).err(),
@@ -26,9 +26,9 @@ fn adapters_write_read_and_miss_real_files(rt: HostRuntime) -> Result<(), Fail> 
     );
     fs::remove_file(&rt, name.as_str())?;
     assert_eq!(rt;
-        folder.read(rt.alloc(), "/tmp", 4).err(),
+        folder.read(rt.alloc(), ".", 4).err(),
         Some(FileError::Failed)
     );
-    assert_eq!(rt; folder.write("/tmp", b"tree").is_ok(), false);
+    assert_eq!(rt; folder.write(".", b"tree").is_ok(), false);
     Ok(())
 }
