@@ -13,6 +13,7 @@ parts_at document found =
     node_at document found.domain >>= λ (domain : Tree). node_at document found.module_node >>= λ (module_node : Tree).
     Some (record { ram = found.ram; domain = domain; memory = found.memory; module_node = module_node; kernel = found.kernel })
 
+-- the same, where the nodes were found
 abbrev pub parts_found : Document → Option Found → Option Parts
 parts_found document None = None
 parts_found document (Some found) = parts_at document found

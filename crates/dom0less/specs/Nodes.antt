@@ -47,11 +47,12 @@ is_compatible properties text = has_string (property_of properties (codes "compa
 abbrev pub is_memory : List Property → Bool
 is_memory properties = is_value (property_of properties (codes "device_type")) (codes "memory" ++ 0 ∷ [])
 
--- the children's addresses and sizes take two cells each (2.3.5)
+-- two and two
 abbrev pub is_two_and_two : Option (ℕ × ℕ) → Bool
 is_two_and_two None = false
 is_two_and_two (Some cells) = if cells.0 == 2 then cells.1 == 2 else false
 
+-- the children's addresses and sizes take two cells each (2.3.5)
 abbrev pub has_two_cells : List Property → Bool
 has_two_cells properties = is_two_and_two (cells_of properties)
 

@@ -21,11 +21,12 @@ abbrev pub siblings_from : Document → Option ℕ → Trees
 siblings_from document None = none
 siblings_from document (Some node) = from_place document.tree (place_of document node)
 
--- the children of the first of the trees, and the trees after it
+-- the children of the first of the trees
 abbrev pub inner_of : Trees → Trees
 inner_of none = none
 inner_of (tree name properties children rest) = children
 
+-- the trees after the first
 abbrev pub later_of : Trees → Trees
 later_of none = none
 later_of (tree name properties children rest) = rest

@@ -25,6 +25,7 @@ IsCause told name failed absent longer statuses.Read line =
 IsCause told name failed absent longer statuses.Longer line = longer × TreeCallsFor name told (Refuses statuses.Longer line)
 IsCause told name failed absent longer status line = ⊥
 
+-- a stop is due: memory ran out, or its cause is there
 abbrev pub IsDue : Option (List File) → List ℕ → Type 0 → Type 0 → Type 0 → Stop → Type 0
 IsDue told name failed absent longer Memory = ⊤
 IsDue told name failed absent longer (Because status line) = IsCause told name failed absent longer status line

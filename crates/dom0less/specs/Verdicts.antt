@@ -76,16 +76,19 @@ abbrev pub guest_in : Tree → List Reserve → Parts → Option Guest
 guest_in root reserves parts =
     if has_form root reserves parts && has_places (guest_from parts) then Some (guest_from parts) else None
 
+-- the guest that a tree describes in the form that is built so far
 abbrev pub guest_of : Tree → List Reserve → Option Guest
 guest_of root reserves = parts_of root >>= guest_in root reserves
 
--- the items that a refusal may name so far
+-- the kernel of a guest, as the item at fault
 abbrev pub kernel_item : Guest → Item
 kernel_item guest = record { part = parts.Module; path = guest.kernel_path; index = 0 }
 
+-- the static memory of a guest, which the kernel meets
 abbrev pub static_item : Guest → Item
 static_item guest = record { part = parts.Static; path = guest.path; index = 0 }
 
+-- the host, where a tree is not of the form that is built so far
 abbrev pub host_item : Item
 host_item = record { part = parts.Host; path = codes "/"; index = 0 }
 

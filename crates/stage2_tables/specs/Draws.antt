@@ -13,6 +13,7 @@ abbrev pub drawn_from : ℕ → List ℕ → Option ℕ → Option (List ℕ)
 drawn_from count free None = None
 drawn_from count free (Some root) = Some (drawn_after count free root)
 
+-- the frames of count tables in the order of drawing, if the free frames have a pair
 abbrev pub table_frames : ℕ → List ℕ → Option (List ℕ)
 table_frames count free = drawn_from count free (lowest_pair free)
 
@@ -21,6 +22,7 @@ abbrev pub left_after : ℕ → List ℕ → Option ℕ → List ℕ
 left_after count free None = free
 left_after count free (Some root) = drop (count - 2) (without root 2 free)
 
+-- the free frames that are left when those of count tables are drawn
 abbrev pub free_after : ℕ → List ℕ → List ℕ
 free_after count free = left_after count free (lowest_pair free)
 

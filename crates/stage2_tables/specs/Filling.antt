@@ -44,6 +44,7 @@ IsNoLeaf Reserved = Unit {0}
 IsNoLeaf (Table frame) = Unit {0}
 IsNoLeaf (Leaf frame attr) = ⊥
 
+-- there is no word, or one of this level that is no leaf
 abbrev pub HasNoLeaf : ℕ → Option ℕ → Type 0
 HasNoLeaf level None = Unit {0}
 HasNoLeaf level (Some word) = IsNoLeaf (meaning level word)

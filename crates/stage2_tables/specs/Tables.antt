@@ -34,23 +34,26 @@ goal_named (Some word) = goal_in (meaning 3 word)
 abbrev pub word_of : List Page → ℕ → Option ℕ → Option ℕ
 word_of pages index table = option_and_then (λ frame. word_in pages frame index) table
 
--- the word of a 1 GiB region, and the level 2 table that it names
+-- the word of a 1 GiB region
 unfoldable pub first_word : List Page → ℕ → ℕ → Option ℕ
 first_word pages root large = word_in pages (root + large / 512) (large % 512)
 
+-- the level 2 table of a 1 GiB region
 abbrev pub middle_of : List Page → ℕ → ℕ → Option ℕ
 middle_of pages root large = table_named 1 (first_word pages root large)
 
--- the word of a 2 MiB region, and the level 3 table that it names
+-- the word of a 2 MiB region
 unfoldable pub second_word : List Page → ℕ → ℕ → Option ℕ
 second_word pages root small = word_of pages (small % 512) (middle_of pages root (small / 512))
 
+-- the level 3 table of a 2 MiB region
 abbrev pub last_of : List Page → ℕ → ℕ → Option ℕ
 last_of pages root small = table_named 2 (second_word pages root small)
 
--- the word of a page, and the frame and the attributes that it names
+-- the word of a page
 unfoldable pub third_word : List Page → ℕ → ℕ → Option ℕ
 third_word pages root page = word_of pages (page % 512) (last_of pages root (page / 512))
 
+-- the frame and the attributes of a page
 abbrev pub goal_of : List Page → ℕ → ℕ → Option (ℕ × ℕ)
 goal_of pages root page = goal_named (third_word pages root page)
