@@ -49,6 +49,7 @@ abbrev pub AreMergedAfter : MapRange → List MapRange → Type 0
 AreMergedAfter before [] = Unit {0}
 AreMergedAfter before (range ∷ ranges) = ¬ (RunsOn before range) × AreMergedAfter range ranges
 
+-- no range of the list runs on from the one before it
 abbrev pub AreMerged : List MapRange → Type 0
 AreMerged [] = Unit {0}
 AreMerged (range ∷ ranges) = AreMergedAfter range ranges

@@ -73,5 +73,6 @@ TookPrefix old new bytes = (k : ℕ) × (new ≡ and_bytes old (take k bytes))
 abbrev pub fits_file : ℕ × ℕ → List ℕ → List ℕ → Bool
 fits_file room name bytes = nat_le 1 room.0 && nat_le (length name + length bytes) room.1
 
+-- the room that is left after one file
 abbrev pub less_file : ℕ × ℕ → List ℕ → List ℕ → ℕ × ℕ
 less_file room name bytes = (room.0 - 1, room.1 - (length name + length bytes))

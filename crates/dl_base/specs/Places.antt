@@ -7,6 +7,7 @@ use Rattle.dl_base.specs.declared.places.Place.{Place}
 abbrev pub file_at : List ℕ → Place → File
 file_at bytes place = (slice_range bytes place.start place.middle, slice_range bytes place.middle place.end)
 
+-- the files at places, in their order
 abbrev pub files_at : List ℕ → List Place → List File
 files_at bytes places = map (file_at bytes) places
 
@@ -16,6 +17,7 @@ pub record IsWithin (count : ℕ) (place : Place) : Type 0 where
   pub contents : place.middle ≤ place.end
   pub inside : place.end ≤ count
 
+-- all places lie within so many bytes
 abbrev pub AreWithin : ℕ → List Place → Type 0
 AreWithin count [] = Unit {0}
 AreWithin count (place ∷ places) = IsWithin count place × AreWithin count places

@@ -47,6 +47,7 @@ runs_from map region (Some first) =
     (first.frame % span region.level == 0) &&
     list_all (λ page. goes_to (map page) (first.frame + (page - region.page)) first.kind) (pages_in region)
 
+-- all pages of the region go to consecutive frames of one kind, from a frame that is a multiple of its pages
 abbrev pub is_run : Map → Region → Bool
 is_run map region = runs_from map region (map region.page)
 

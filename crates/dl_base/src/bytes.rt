@@ -1,5 +1,6 @@
 // Bytes that contracts see as their list.
-ghost use Rattle.std.specs.Prelude.{◌≡◌, [], ◌++◌, OnOk, OnErr};
+ghost use Rattle.std.specs.Prelude.{◌≡◌, [], ◌++◌, OnOk, OnErr, decimal};
+ghost use Rattle.dl_base.specs.NumberTexts.{hexadecimal};
 
 use std::alloc::{AllocError, Global};
 use std::marker::Model;
@@ -41,6 +42,24 @@ impl Bytes {
         ensures err { OnErr result (self.new ≡ self.old) }
     {
         self.inner.extend_from_slice(more)
+    }
+
+    /// Adds a number in decimal digits. After want of memory the bytes are as they were.
+    pub fn append_decimal(&mut self, alloc: Global, number: u64) -> Result<(), AllocError>
+        ensures ok { OnOk result (self.new ≡ self.old ++ decimal number) }
+        ensures err { OnErr result (self.new ≡ self.old) }
+    {
+        let shown = format!(in alloc; "{number}")?;
+        self.append(shown.as_bytes())
+    }
+
+    /// Adds a number as `0x` and lower-case hexadecimal digits. After want of memory the bytes are as they were.
+    pub fn append_hexadecimal(&mut self, alloc: Global, number: u64) -> Result<(), AllocError>
+        ensures ok { OnOk result (self.new ≡ self.old ++ hexadecimal number) }
+        ensures err { OnErr result (self.new ≡ self.old) }
+    {
+        let shown = format!(in alloc; "0x{number:x}")?;
+        self.append(shown.as_bytes())
     }
 
     /// Gives the bytes back as the vector that holds them. Takes no memory.

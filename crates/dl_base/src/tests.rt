@@ -86,3 +86,14 @@ fn sure_files_answer_for_absent_names(rt: HostRuntime) {
     let mut files = SureFiles::new(MemFiles::new(rt.alloc()));
     assert_eq!(rt; files.size("host.dtb"), Err(SizeError::Absent));
 }
+
+#[test]
+fn a_number_is_shown_in_both_bases(rt: HostRuntime) -> Result<(), Fail> {
+    let mut line = Bytes::new(rt.alloc());
+    line.append_decimal(rt.alloc(), 4096)?;
+    line.append(b" ")?;
+    line.append_hexadecimal(rt.alloc(), 0xffff_ffff_ffff_ffff)?;
+    line.append_hexadecimal(rt.alloc(), 0)?;
+    assert_eq!(rt; line.as_slice(), b"4096 0xffffffffffffffff0x0".as_slice());
+    Ok(())
+}
