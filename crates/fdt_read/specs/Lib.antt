@@ -7,3 +7,4 @@ pub mod Spells
 pub mod Laws
 pub mod Found
 pub mod Built
+pub mod FaultTexts

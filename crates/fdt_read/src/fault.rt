@@ -1,4 +1,9 @@
 // Why a file is no flattened tree.
+ghost use Rattle.std.specs.Prelude.{◌≡◌, ◌++◌, OnOk};
+ghost use Rattle.fdt_read.specs.FaultTexts.{at_offset, fault_text};
+
+use dl_base::Bytes;
+use std::alloc::{AllocError, Global};
 
 /// The first fault of a file that is no flattened tree. Each offset counts bytes from the beginning of the file.
 #[derive(Debug, Drop)]
@@ -20,4 +25,30 @@ pub enum FdtFault {
     Deep(u64),
     /// No memory was left.
     Memory,
+}
+
+impl FdtFault {
+    /// Adds the fault's text to a line. After want of memory a part of it may have been added.
+    pub fn append_text(&self, alloc: Global, line: &mut Bytes) -> Result<(), AllocError>
+        ensures { OnOk result (line.new ≡ line.old ++ fault_text self.now) }
+    {
+        match self {
+            FdtFault::Magic => line.append(b"Magic"),
+            FdtFault::Version => line.append(b"Version"),
+            FdtFault::Bounds(offset) => append_at(alloc, line, "Bounds", *offset),
+            FdtFault::Token(offset) => append_at(alloc, line, "Token", *offset),
+            FdtFault::Name(offset) => append_at(alloc, line, "Name", *offset),
+            FdtFault::Order(offset) => append_at(alloc, line, "Order", *offset),
+            FdtFault::Deep(offset) => append_at(alloc, line, "Deep", *offset),
+            FdtFault::Memory => line.append(b"out of memory"),
+        }
+    }
+}
+
+fn append_at(alloc: Global, line: &mut Bytes, name: &str, offset: u64) -> Result<(), AllocError>
+    ensures { OnOk result (line.new ≡ line.old ++ at_offset name.now offset) }
+{
+    line.append(name.as_bytes())?;
+    line.append(b" at ")?;
+    line.append_decimal(alloc, offset)
 }
