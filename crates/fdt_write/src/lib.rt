@@ -13,3 +13,4 @@ mod tree_tokens;
 
 pub use fault::WriteFault;
 pub use flat::write;
+pub use tree_tokens::{TreeToken, TreeTokens};

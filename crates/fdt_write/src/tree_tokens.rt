@@ -6,10 +6,14 @@ use fdt_tree::{NodeId, Tree};
 
 /// A token of the structure block (5.4.1), with what it holds of the tree.
 #[derive(Clone, Copy)]
-pub(crate) enum TreeToken<'a> {
+pub enum TreeToken<'a> {
+    /// A node of this name begins. The root's name is empty.
     BeginNode(&'a [u8]),
+    /// The innermost node that is open has a property of this name and this value.
     Property(&'a [u8], &'a [u8]),
+    /// The innermost node that is open ends.
     EndNode,
+    /// The tree ends.
     End,
 }
 
@@ -26,9 +30,9 @@ pub(crate) enum Step {
     Done,
 }
 
-/// A walk over the tokens that spell a tree.
+/// The tokens that spell a tree, one after another. Takes no memory.
 #[derive(Clone, Copy)]
-pub(crate) struct TreeTokens<'a> {
+pub struct TreeTokens<'a> {
     tree: &'a Tree,
     node: NodeId,
     step: Step,
@@ -44,8 +48,8 @@ impl<'a> TreeTokens<'a> {
     ghost use Rattle.fdt_write.specs.Walk.{left};
     ghost use Rattle.fdt_write.specs.declared.tree_tokens.Step.TheVariants.{Before, After};
 
-    /// All tokens of a tree.
-    pub(crate) fn new(tree: &'a Tree) -> TreeTokens<'a>
+    /// All tokens of a tree, in document order.
+    pub fn new(tree: &'a Tree) -> TreeTokens<'a>
         ensures { left result ≡ spelled_whole tree.now.tree }
     {
         tree.numbering();
