@@ -1,0 +1,10 @@
+//! The listing of a device tree as text: its reservations, its nodes by their paths, and their properties.
+#![tactic(auto)]
+
+mod lines;
+mod listing;
+mod opened;
+#[cfg(test)]
+mod tests;
+
+pub use listing::list;
