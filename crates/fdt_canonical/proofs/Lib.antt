@@ -1,0 +1,5 @@
+pub mod Ended
+pub mod InputLemmas
+pub mod ReadLemmas
+pub mod RunLemmas
+pub mod Settled
