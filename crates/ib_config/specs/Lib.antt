@@ -5,3 +5,4 @@ pub mod Rules
 pub mod Variables
 pub mod Settings
 pub mod Scan
+pub mod FaultTexts

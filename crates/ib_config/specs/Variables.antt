@@ -56,66 +56,84 @@ abbrev pub guest_count : List ℕ → Result ℕ Wrong
 guest_count text = option_map_or (λ count. if nat_lt 16 count then Err (λ name index. TooMany count) else Ok count) (number text) (Err BadValue)
 
 -- The table of ImageBuilder's variables that have an effect, in the order in which they are tested.
+
+-- the first address of the memory that files are loaded in, in bytes
 abbrev pub MEMORY_START : Variable ℕ
 MEMORY_START = required (codes "MEMORY_START") (number_between 0 (2 ^ 40))
 
+-- the end of that memory, in bytes: the first address behind it
 abbrev pub MEMORY_END : Variable ℕ
 MEMORY_END = required (codes "MEMORY_END") (number_between 0 (2 ^ 40))
 
+-- the file of the host's device tree, as a DTB
 abbrev pub DEVICE_TREE : Variable (List ℕ)
 DEVICE_TREE = required_file (codes "DEVICE_TREE")
 
+-- the file of Xen
 abbrev pub XEN : Variable (List ℕ)
 XEN = required_file (codes "XEN")
 
+-- the command line that Xen starts with, `console=dtuart` by default
 abbrev pub XEN_CMD : Variable (List ℕ)
 XEN_CMD = with_default (codes "XEN_CMD") Some (codes "console=dtuart")
 
+-- the file of dom0's kernel
 abbrev pub DOM0_KERNEL : Variable (Option (List ℕ))
 DOM0_KERNEL = optional_file (codes "DOM0_KERNEL")
 
+-- the file of dom0's ramdisk
 abbrev pub DOM0_RAMDISK : Variable (Option (List ℕ))
 DOM0_RAMDISK = optional_file (codes "DOM0_RAMDISK")
 
+-- the command line that dom0's kernel starts with
 abbrev pub DOM0_CMD : Variable (Option (List ℕ))
 DOM0_CMD = optional (codes "DOM0_CMD") Some None
 
+-- how many guests Xen starts beside dom0, at most 16; none by default
 abbrev pub NUM_DOMUS : Variable ℕ
 NUM_DOMUS = record { name = codes "NUM_DOMUS"; is_file = false; read = guest_count; missing = Ok 0 }
 
+-- the file of a guest's kernel
 abbrev pub DOMU_KERNEL : Variable (List ℕ)
 DOMU_KERNEL = required_file (codes "DOMU_KERNEL")
 
+-- the file of a guest's ramdisk
 abbrev pub DOMU_RAMDISK : Variable (Option (List ℕ))
 DOMU_RAMDISK = optional_file (codes "DOMU_RAMDISK")
 
+-- the command line that a guest's kernel starts with
 abbrev pub DOMU_CMD : Variable (Option (List ℕ))
 DOMU_CMD = optional (codes "DOMU_CMD") Some None
 
--- in MiB; a guest with static memory need not have it
+-- the size of a guest's memory in MiB, 512 by default; a guest with static memory need not have it
 abbrev pub DOMU_MEM : Bool → Variable (Option ℕ)
 DOMU_MEM static = optional (codes "DOMU_MEM") (number_between 1 1048576) (if static then None else Some 512)
 
+-- how many virtual CPUs a guest has, 1 by default
 abbrev pub DOMU_VCPUS : Variable ℕ
 DOMU_VCPUS = with_default (codes "DOMU_VCPUS") (number_between 1 128) 1
 
+-- whether a guest has a virtual UART, a PL011: 1, the default, or 0
 abbrev pub DOMU_VPL011 : Variable Bool
 DOMU_VPL011 = with_default (codes "DOMU_VPL011") flag true
 
+-- the host ranges that are a guest's memory, each a base address and a size in bytes
 abbrev pub DOMU_STATIC_MEM : Variable (List BaseSize)
 DOMU_STATIC_MEM = with_default (codes "DOMU_STATIC_MEM") static_ranges []
 
--- read of a guest with static memory alone
+-- whether a guest sees these ranges at their host addresses: 1, the default, or 0; read of a guest with static memory alone
 abbrev pub DOMU_DIRECT_MAP : Variable Bool
 DOMU_DIRECT_MAP = with_default (codes "DOMU_DIRECT_MAP") flag true
 
+-- the file of the partial device tree with the host devices that a guest is given
 abbrev pub DOMU_PASSTHROUGH_DTB : Variable (Option (List ℕ))
 DOMU_PASSTHROUGH_DTB = optional_file (codes "DOMU_PASSTHROUGH_DTB")
 
+-- the regions that a guest shares with others, each an id, a host address, a guest address and a size in bytes
 abbrev pub DOMU_SHARED_MEM : Variable (List ShmGroup)
 DOMU_SHARED_MEM = with_default (codes "DOMU_SHARED_MEM") shared_regions []
 
--- of a number of guests, whose port groups are given
+-- the event channels of a guest, each its port, its peer's number and the peer's port; of a number of guests, whose port groups are given
 abbrev pub DOMU_EVTCHNS : (ℕ → List PortGroup) → ℕ → Variable (List PortGroup)
 DOMU_EVTCHNS ports guests = with_default (codes "DOMU_EVTCHNS") (event_channels ports guests) []
 

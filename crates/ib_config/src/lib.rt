@@ -10,6 +10,7 @@ mod groups;
 mod guests;
 mod lines;
 mod settings;
+mod shown;
 #[cfg(test)]
 mod tests;
 mod unused;

@@ -1,4 +1,4 @@
-pub mod Faults
+pub mod Answers
 pub mod Lines
 pub mod Shown
 pub mod Words

@@ -1,5 +1,7 @@
 use super::*;
-use ib_config::ConfigFault;
+use crate::fault::show_fault;
+use crate::settings::show_config;
+use ib_config::{ConfigFault, read_config};
 use std::test::Fail;
 
 const SHARING: &str =
@@ -27,7 +29,7 @@ fn groups_of_words_are_shown_on_one_line(rt: HostRuntime) -> Result<(), Fail> {
 #[test]
 fn a_fault_is_shown_with_its_line(rt: HostRuntime) -> Result<(), Fail> {
     let shown = show_fault(rt.alloc(), &ConfigFault::NotPlain(5))?;
-    assert_eq!(rt; shown.as_str(), "NotPlain at 5");
+    assert_eq!(rt; shown.as_slice(), b"NotPlain at 5\n".as_slice());
     Ok(())
 }
 
@@ -40,7 +42,7 @@ fn a_missing_variable_of_a_guest_is_shown_with_its_index(rt: HostRuntime) -> Res
         Ok(_) => assert!(rt; false, "accepted"),
         Err(fault) => {
             let shown = show_fault(rt.alloc(), &fault)?;
-            assert_eq!(rt; shown.as_str(), "Missing DOMU_KERNEL[0]");
+            assert_eq!(rt; shown.as_slice(), b"Missing DOMU_KERNEL[0]\n".as_slice());
         }
     }
     Ok(())
