@@ -1,0 +1,5 @@
+pub mod Guests
+pub mod Phandles
+pub mod Properties
+pub mod Script
+pub mod Text

@@ -1,0 +1,22 @@
+//! The commands of a boot script, and their text.
+#![tactic(auto)]
+
+mod command;
+mod guests;
+mod lines;
+mod links;
+mod machine;
+mod make;
+mod modules;
+mod phandles;
+mod properties;
+mod script;
+mod start;
+#[cfg(test)]
+mod tests;
+mod texts;
+mod words;
+
+pub use command::{Command, Piece};
+pub use lines::print;
+pub use make::{HostFacts, LoadKind, MakeFault, commands};
