@@ -1,35 +1,97 @@
--- What the reading of a tree and the verdict on it call for.
-use Rattle.std.proofs.Common.{◌≡◌, ℕ, List, inl, inr}
-use Rattle.std.specs.Prelude.{◌⊎◌, Result, Ok, Err, IfErr}
+-- A stop that is due for a step of a run is due for the run.
+use Rattle.std.proofs.Common.{◌≤◌, ℕ, List, inl, inr, arith}
+use Rattle.std.specs.Prelude.{Result, Ok, Err, IfOk, IfErr}
+use Rattle.dl_base.specs.Outside.{Rose}
 use Rattle.dl_base.specs.declared.status.Status.{Status}
 use Rattle.dl_base.specs.declared.status.Status.TheVariants as statuses
-use Rattle.dl_base.specs.declared.item.Item.{Item}
-use Rattle.dl_base.specs.declared.why.Why.{Why}
-use Rattle.fdt_tree.specs.Tree.{Tree}
-use Rattle.fdt_tree.specs.declared.reserve.Reserve.{Reserve}
-use Rattle.fdt_read.specs.Spells.{Spells}
-use Rattle.dom0less.specs.declared.guest.Guest.{Guest}
 use Rattle.dom0less.specs.declared.stop.Stop.{Stop}
 use Rattle.dom0less.specs.declared.stop.Stop.TheVariants.{Memory, Because}
-use Rattle.dom0less.specs.Endings.{Refuses}
-use Rattle.dom0less.specs.Verdicts.{verdict}
-use Rattle.dom0less.specs.Job.{IsVerdictJob}
-use Rattle.dom0less.specs.Stops.{IsTreeDue, IsRefusalOf}
+use Rattle.dom0less.specs.Endings.{Outcome, Builds}
+use Rattle.dom0less.specs.Outputs.{files_of, report_of}
+use Rattle.dom0less.specs.declared.output.Build.{Build}
+use Rattle.dom0less.specs.Stops.{Counts, Grew, IsCause, IsDue, IsOwnCause, IsOwnDue}
 
--- a verdict's refusal is its job, with its status
-abbrev IsVerdictDue : Result Guest (Item × Why) → Status → List ℕ → Type 0
-IsVerdictDue judged status line = IsVerdictJob judged (Refuses status line) × ((status ≡ statuses.Refused) ⊎ (status ≡ statuses.Format))
+-- a count that rose later rose
+rose_later : (old mid new : ℕ) → old ≤ mid → Rose mid new → Rose old new
+rose_later old mid new grew rose = grind (arith)
 
-verdict_due : (judged : Result Guest (Item × Why)) (status : Status) (line : List ℕ) → IsRefusalOf judged (Because status line) → IsVerdictDue judged status line
-verdict_due (Err fault) status line is = ((is.0, is.1), inl is.0)
-verdict_due (Ok guest) status line is = elim is [ ]
+-- counts that grew twice grew
+pub grew_twice : (old mid new : Counts) → Grew old mid → Grew mid new → Grew old new
+grew_twice old mid new one other = (grind (arith), grind (arith), grind (arith))
 
-module _ (name bytes : List ℕ) (reserves : List Reserve) (boot : ℕ) (root : Tree) (spells : Spells bytes reserves boot root) where
-  stop_due : (stop : Stop) → IsRefusalOf (verdict root reserves) stop → IsTreeDue name bytes stop
-  stop_due Memory is = tt
-  stop_due (Because status line) is =
-      let due = verdict_due (verdict root reserves) status line is in (inr (reserves, boot, root, spells, due.0), due.1)
+module _ (job other : Outcome → Type 0) (implied : (outcome : Outcome) → job outcome → other outcome) where
+  -- the same stop is due for what is called for where the step's is
+  module _ (old mid new : Counts) (grew : Grew old mid) where
+    cause_later : (status : Status) (line : List ℕ) → IsCause job mid new status line → IsCause other old new status line
+    cause_later statuses.Refused line cause = implied _ cause
+    cause_later statuses.Format line cause = implied _ cause
+    cause_later statuses.Read line (inl failed) = inl (rose_later _ _ _ grew.0 failed.0, failed.1)
+    cause_later statuses.Read line (inr absent) = inr (rose_later _ _ _ grew.1 absent.0, implied _ absent.1)
+    cause_later statuses.Longer line cause = (rose_later _ _ _ grew.2 cause.0, implied _ cause.1)
+    cause_later statuses.Built line cause = elim cause [ ]
+    cause_later statuses.Memory line cause = elim cause [ ]
+    cause_later statuses.Words line cause = elim cause [ ]
+    cause_later statuses.Write line cause = elim cause [ ]
+    cause_later statuses.Differs line cause = elim cause [ ]
 
-  pub refused_due : {A : Type 0} (result : Result A Stop) → IfErr result (λ stop. IsRefusalOf (verdict root reserves) stop) → IfErr result (λ stop. IsTreeDue name bytes stop)
-  refused_due (Ok built) is = tt
-  refused_due (Err stop) is = stop_due stop is
+    pub due_later : (stop : Stop) → IsDue job mid new stop → IsDue other old new stop
+    due_later Memory due = tt
+    due_later (Because status line) due = cause_later status line due
+
+  own_cause : (status : Status) (line : List ℕ) → IsOwnCause job status line → IsOwnCause other status line
+  own_cause statuses.Refused line cause = implied _ cause
+  own_cause statuses.Format line cause = implied _ cause
+  own_cause statuses.Built line cause = elim cause [ ]
+  own_cause statuses.Memory line cause = elim cause [ ]
+  own_cause statuses.Words line cause = elim cause [ ]
+  own_cause statuses.Read line cause = elim cause [ ]
+  own_cause statuses.Write line cause = elim cause [ ]
+  own_cause statuses.Longer line cause = elim cause [ ]
+  own_cause statuses.Differs line cause = elim cause [ ]
+
+  -- a step that reaches no file stops for the same as what follows from it
+  pub own_due : (stop : Stop) → IsOwnDue job stop → IsOwnDue other stop
+  own_due Memory due = tt
+  own_due (Because status line) due = own_cause status line due
+
+  -- and for the same whatever the counts are
+  module _ (old new : Counts) where
+    cause_anyway : (status : Status) (line : List ℕ) → IsOwnCause job status line → IsCause other old new status line
+    cause_anyway statuses.Refused line cause = implied _ cause
+    cause_anyway statuses.Format line cause = implied _ cause
+    cause_anyway statuses.Built line cause = elim cause [ ]
+    cause_anyway statuses.Memory line cause = elim cause [ ]
+    cause_anyway statuses.Words line cause = elim cause [ ]
+    cause_anyway statuses.Read line cause = elim cause [ ]
+    cause_anyway statuses.Write line cause = elim cause [ ]
+    cause_anyway statuses.Longer line cause = elim cause [ ]
+    cause_anyway statuses.Differs line cause = elim cause [ ]
+
+    pub due_anyway : (stop : Stop) → IsOwnDue job stop → IsDue other old new stop
+    due_anyway Memory due = tt
+    due_anyway (Because status line) due = cause_anyway status line due
+
+-- counts that stand still
+grew_none : (counts : Counts) → Grew counts counts
+grew_none counts = (grind (arith), grind (arith), grind (arith))
+
+-- a stop that is due for a step is due for what begins with it
+pub due_here : (job other : Outcome → Type 0) (implied : (outcome : Outcome) → job outcome → other outcome) (old new : Counts) → (stop : Stop) → IsDue job old new stop → IsDue other old new stop
+due_here job other implied old new stop due = due_later job other implied old old new (grew_none old) stop due
+
+-- the same of what a step answers
+pub stopped_later : {A : Type 0} (job other : Outcome → Type 0) (implied : (outcome : Outcome) → job outcome → other outcome) (old mid new : Counts) → Grew old mid
+    → (result : Result A Stop) → IfErr result (λ stop. IsDue job mid new stop) → IfErr result (λ stop. IsDue other old new stop)
+stopped_later job other implied old mid new grew (Ok value) due = tt
+stopped_later job other implied old mid new grew (Err stop) due = due_later job other implied old mid new grew stop due
+
+pub stopped_anyway : {A : Type 0} (job other : Outcome → Type 0) (implied : (outcome : Outcome) → job outcome → other outcome) (old new : Counts)
+    → (result : Result A Stop) → IfErr result (λ stop. IsOwnDue job stop) → IfErr result (λ stop. IsDue other old new stop)
+stopped_anyway job other implied old new (Ok value) due = tt
+stopped_anyway job other implied old new (Err stop) due = due_anyway job other implied old new stop due
+
+-- what is made for a step is made for the run
+pub built_for : (job other : Outcome → Type 0) (implied : (outcome : Outcome) → job outcome → other outcome)
+    → (result : Result Build Stop) → IfOk result (λ build. job (Builds (files_of build) (report_of build))) → IfOk result (λ build. other (Builds (files_of build) (report_of build)))
+built_for job other implied (Ok build) made = implied _ made
+built_for job other implied (Err stop) made = tt

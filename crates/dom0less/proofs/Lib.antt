@@ -1,10 +1,8 @@
-pub mod SiblingLemmas
-pub mod NodeLemmas
-pub mod NodeTurns
-pub mod PartLemmas
-pub mod PlaceLemmas
-pub mod Held
 pub mod Taken
 pub mod Due
-pub mod Described
+pub mod Readings
+pub mod Steps
+pub mod Builds
+pub mod Scripts
 pub mod OneOutcome
+pub mod Written

@@ -1,25 +1,25 @@
 -- What outputs took of a list of files.
-use Rattle.std.proofs.Common.{◌≡◌, ap, refl, ℕ, ◌+◌, ◌<◌, length, take, drop, get_or, add-one, drop-cons, List, [], ◌∷◌, ◌++◌, append-nil, Some, None}
+use Rattle.std.proofs.Common.{◌≡◌, ◌∙◌, sym, ap, refl, ℕ, ◌+◌, ◌<◌, length, map, take, drop, get_or, List, [], ◌∷◌, ◌++◌, append-nil, Some, None}
 use Rattle.std.specs.Prelude.{Option}
-use Rattle.std.proofs.lemmas.List.{take-append-drop}
+use Rattle.std.proofs.lemmas.List.{take-append-drop, map-append, drop_more}
 use Rattle.dl_base.specs.Outside.{File, TookPart, and_bytes}
 use Rattle.dom0less.specs.Endings.{and_files, TookUpTo}
+use Rattle.dom0less.specs.Outputs.{file_of}
+use Rattle.dom0less.specs.declared.output.Output.{Output}
 
 pub and_files-none : (taken : Option (List File)) → and_files taken [] ≡ taken
 and_files-none None = refl
 and_files-none (Some files) = ap Some (append-nil files)
 
--- the first output was not taken whole
-pub TookUpTo-first : (old new : Option (List File)) (name bytes : List ℕ) (after : List File) → TookPart old new name bytes → TookUpTo old new ((name, bytes) ∷ after) name
-TookUpTo-first old new name bytes after part = ([], bytes, after, refl, rw (and_files-none old) part)
-
--- an output in the middle of a list was not taken whole
-pub TookUpTo-at : (old new : Option (List File)) (outputs : List File) (index : ℕ) (file : File) → index < length outputs → file ≡ get_or outputs index ([], [])
-    → TookPart (and_files old (take index outputs)) new file.0 file.1 → TookUpTo old new outputs (get_or outputs index ([], [])).0
-TookUpTo-at old new outputs index file below is part =
-    let split : outputs ≡ take index outputs ++ get_or outputs index ([], []) ∷ drop (index + 1) outputs =
-    rw (add-one index, ← drop-cons outputs index ([], []) below, take-append-drop index outputs) refl in
-    (take index outputs, (get_or outputs index ([], [])).1, drop (index + 1) outputs, split, rw is at part)
+-- an output of a list was not taken whole
+pub TookUpTo-output : (old new : Option (List File)) (outputs : List Output) (index : ℕ) (output : Output) → index < length outputs → output ≡ get_or outputs index output
+    → TookPart (and_files old (map file_of (take index outputs))) new output.name output.bytes → TookUpTo old new (map file_of outputs) output.name
+TookUpTo-output old new outputs index output below is part =
+    let split : map file_of outputs ≡ map file_of (take index outputs) ++ file_of output ∷ map file_of (drop (index + 1) outputs) =
+    ap (map file_of) (sym (take-append-drop index outputs)) ∙ map-append file_of (take index outputs) (drop index outputs)
+    ∙ ap (λ (left : List Output). map file_of (take index outputs) ++ map file_of left) (drop_more outputs index output below)
+    ∙ ap (λ (first : Output). map file_of (take index outputs) ++ file_of first ∷ map file_of (drop (index + 1) outputs)) (sym is) in
+    (map file_of (take index outputs), output.bytes, map file_of (drop (index + 1) outputs), split, part)
 
 -- a stream that took nothing
 pub and_bytes-none : (taken : Option (List ℕ)) → and_bytes taken [] ≡ taken

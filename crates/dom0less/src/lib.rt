@@ -1,23 +1,21 @@
-//! Builds the guests of a Xen dom0less boot from a host's device tree.
+//! The program `dom0less`: builds the guests of a Xen dom0less boot from a host's device tree, lists a tree, or writes the
+//! boot script of a configuration.
 #![tactic(auto)]
 
-mod form;
-mod guest;
-mod image;
+mod host;
+mod joined;
 pub mod laws;
 mod lines;
-mod nodes;
+mod output;
 mod outputs;
-mod parts;
-mod places;
 mod prepare;
-mod ranges;
+mod reading;
+mod script;
+mod sizes;
 mod stop;
 #[cfg(test)]
 mod tests;
 mod top;
-mod verdict;
 mod words;
 
-pub use guest::Guest;
 pub use top::run;

@@ -1,7 +1,10 @@
 // Worked runs: what no clause says is that they succeed, and what the bytes and the lines look like.
+mod configuration;
 mod flattened;
 mod host;
+mod listings;
 mod outside;
+mod scripts;
 
 use self::host::{Host, WORKED, file_of};
 use self::outside::Outside;
@@ -44,7 +47,7 @@ fn direct_mapped_guest_walks_to_itself(rt: HostRuntime) -> Result<(), Fail> {
         outside.run(rt.alloc(), &["-b", "host.dtb"])?,
         Status::Built
     );
-    let bytes = outside.image();
+    let bytes = outside.output(1, "domU0.s2");
     assert_eq!(rt; bytes.len(), 1_062_960);
     assert_eq!(rt; word_at(bytes, 8), 0, "the root frame");
     assert_eq!(rt; word_at(bytes, 16), 259, "the number of pages");
@@ -59,6 +62,7 @@ fn direct_mapped_guest_walks_to_itself(rt: HostRuntime) -> Result<(), Fail> {
     assert_eq!(rt; walked(bytes, 0x5fff_ffff), 0x5fff_f7ff);
     assert_eq!(rt; walked(bytes, 0x6000_0000), 0);
     assert_eq!(rt; outside.err.bytes().len(), 0);
+    assert_eq!(rt; outside.outs.written(2).is_none(), true);
     Ok(())
 }
 
@@ -68,6 +72,7 @@ fn kernel_over_static_memory_is_refused(rt: HostRuntime) -> Result<(), Fail> {
     let host = Host {
         kernel: 0x4000_0000,
         direct: true,
+        phandle: 1,
     };
     outside.files.add("host.dtb", &file_of(rt.alloc(), host)?)?;
     assert_eq!(rt;
@@ -86,6 +91,7 @@ fn guest_that_is_not_direct_mapped_is_not_built_yet(rt: HostRuntime) -> Result<(
     let host = Host {
         kernel: 0x20_0000,
         direct: false,
+        phandle: 1,
     };
     outside.files.add("host.dtb", &file_of(rt.alloc(), host)?)?;
     assert_eq!(rt;
@@ -109,7 +115,7 @@ fn no_bytes_are_no_tree(rt: HostRuntime) -> Result<(), Fail> {
     );
     assert_eq!(rt;
         outside.err.bytes(),
-        b"dom0less: host.dtb: BadTree\n".as_slice()
+        b"dom0less: host.dtb: Magic\n".as_slice()
     );
     Ok(())
 }
@@ -157,10 +163,9 @@ fn absent_and_failing_files_are_told_apart(rt: HostRuntime) -> Result<(), Fail> 
 #[test]
 fn failed_write_leaves_half_of_the_image(rt: HostRuntime) -> Result<(), Fail> {
     let mut outside = Outside::new(rt.alloc())?;
-    outside
-        .files
-        .add("host.dtb", &file_of(rt.alloc(), WORKED)?)?;
-    outside.outs.fail_at(0)?;
+    let file = file_of(rt.alloc(), WORKED)?;
+    outside.files.add("host.dtb", &file)?;
+    outside.outs.fail_at(1)?;
     assert_eq!(rt;
         outside.run(rt.alloc(), &["-b", "host.dtb"])?,
         Status::Write
@@ -169,7 +174,8 @@ fn failed_write_leaves_half_of_the_image(rt: HostRuntime) -> Result<(), Fail> {
         outside.err.bytes(),
         b"dom0less: domU0.s2: write failed\n".as_slice()
     );
-    assert_eq!(rt; outside.image().len(), 531_480);
+    assert_eq!(rt; outside.output(0, "host.dtb").is_empty(), false);
+    assert_eq!(rt; outside.output(1, "domU0.s2").len(), 531_480);
     Ok(())
 }
 

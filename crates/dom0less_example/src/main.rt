@@ -1,42 +1,30 @@
-//! The job of `dom0less` on a host tree, with the written file shown in place of kept: `host.dtb` is read from the folder
-//! that the program runs in, and the image is written to memory and printed.
+//! The jobs of `dom0less` on the files of a folder, with what is written shown in place of kept: the files are read from
+//! the folder that the program runs in, and each job runs in memory.
 #![tactic(auto)]
 
+mod job;
 mod shown;
 
+use crate::job::{Job, read_files};
 use crate::shown::{show_file, show_walk};
-use dl_base::{MemFiles, MemOuts, MemSink};
-use std::alloc::{AllocError, Global};
-use std::rt::Files;
-use std::{fs, io};
+use std::io;
 
-// Room for the image of the example: its name and 1,062,960 bytes.
-const ROOM: usize = 2_000_000;
+/// The names of the files that the jobs read.
+const FILES: [&str; 7] = [
+    "host.dtb",
+    "imagebuilder.cfg",
+    "mpsoc.dtb",
+    "xen",
+    "Image-0",
+    "rd-0.cpio",
+    "Image-1",
+];
 
-/// The words of the command line that is shown.
-fn words(alloc: Global) -> Result<Vec<String>, AllocError> {
-    let mut words = Vec::new(alloc);
-    for word in ["dom0less", "-b", "host.dtb"] {
-        words.push(String::from_str(alloc, word)?)?;
-    }
-    Ok(words)
-}
-
-/// Runs the job on the bytes of a tree, and shows what it wrote.
-fn run(rt: &(impl Print + AllocGlobal), tree: &[u8]) -> io::Result<()> {
-    let alloc = rt.alloc();
-    let mut files = MemFiles::new(alloc);
-    files.add("host.dtb", tree)?;
-    let mut outs = MemOuts::new(alloc);
-    outs.reserve(1, ROOM)?;
-    let mut out = MemSink::new(alloc);
-    let mut err = MemSink::new(alloc);
-    err.reserve(ROOM)?;
-    let words = words(alloc)?;
-    let status = dom0less::run(alloc, &words, &mut files, &mut outs, &mut out, &mut err);
-    let code = status.code();
+/// Builds the guest of the host tree, and shows its image.
+fn show_build(rt: &impl Print, job: &Job) -> io::Result<()> {
+    let code = job.status.code();
     println!(rt; "dom0less -b host.dtb: status {code}")?;
-    if let Some((_name, bytes)) = outs.written(0) {
+    if let Some((_name, bytes)) = job.outs.written(1) {
         show_file(rt, bytes)?;
         for address in [0x3fff_ffff, 0x4000_0000, 0x5fff_ffff, 0x6000_0000] {
             show_walk(rt, bytes, address)?;
@@ -45,7 +33,19 @@ fn run(rt: &(impl Print + AllocGlobal), tree: &[u8]) -> io::Result<()> {
     Ok(())
 }
 
+/// Makes the boot script of the configuration, and shows it.
+fn show_script(rt: &impl Print, job: &Job) -> io::Result<()> {
+    let code = job.status.code();
+    println!(rt; "dom0less -c imagebuilder.cfg --script-only: status {code}")?;
+    job.show_report(rt)?;
+    job.show_output(rt, 0)
+}
+
 fn main(rt: HostRuntime) -> io::Result<()> {
-    let tree = fs::read(&rt, "host.dtb")?;
-    run(&rt, &tree)
+    let files = read_files(&rt, &FILES)?;
+    let (build, files) = Job::run(rt.alloc(), files, &["-b", "host.dtb"])?;
+    show_build(&rt, &build)?;
+    let words = ["-c", "imagebuilder.cfg", "--script-only"];
+    let (script, _files) = Job::run(rt.alloc(), files, &words)?;
+    show_script(&rt, &script)
 }

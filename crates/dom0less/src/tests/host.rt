@@ -9,12 +9,15 @@ pub(crate) struct Host {
     pub(crate) kernel: u32,
     /// Whether the guest is direct-mapped.
     pub(crate) direct: bool,
+    /// The phandle of the interrupt controller.
+    pub(crate) phandle: u32,
 }
 
 /// The worked host itself.
 pub(crate) const WORKED: Host = Host {
     kernel: 0x20_0000,
     direct: true,
+    phandle: 1,
 };
 
 fn put_memory(tree: &mut Flattened) -> Result<(), AllocError> {
@@ -24,12 +27,12 @@ fn put_memory(tree: &mut Flattened) -> Result<(), AllocError> {
     tree.end()
 }
 
-fn put_gic(tree: &mut Flattened) -> Result<(), AllocError> {
+fn put_gic(tree: &mut Flattened, phandle: u32) -> Result<(), AllocError> {
     tree.begin(b"gic\0")?;
     tree.prop(b"compatible\0", b"arm,gic-v3\0")?;
     tree.cells(b"#interrupt-cells\0", &[3])?;
     tree.prop(b"interrupt-controller\0", b"")?;
-    tree.cells(b"phandle\0", &[1])?;
+    tree.cells(b"phandle\0", &[phandle])?;
     tree.end()
 }
 
@@ -62,7 +65,7 @@ pub(crate) fn file_of(alloc: Global, host: Host) -> Result<Vec<u8>, AllocError> 
     tree.cells(b"#size-cells\0", &[2])?;
     tree.cells(b"interrupt-parent\0", &[1])?;
     put_memory(&mut tree)?;
-    put_gic(&mut tree)?;
+    put_gic(&mut tree, host.phandle)?;
     tree.begin(b"chosen\0")?;
     put_domain(&mut tree, host)?;
     tree.end()?;

@@ -17,12 +17,14 @@ impl Outside {
     pub(crate) fn new(alloc: Global) -> Result<Outside, AllocError> {
         let mut outs = MemOuts::new(alloc);
         outs.reserve(4, 2_000_000)?;
+        let mut out = MemSink::new(alloc);
+        out.reserve(4000)?;
         let mut err = MemSink::new(alloc);
         err.reserve(200)?;
         Ok(Outside {
             files: MemFiles::new(alloc),
             outs,
-            out: MemSink::new(alloc),
+            out,
             err,
         })
     }
@@ -44,11 +46,11 @@ impl Outside {
         ))
     }
 
-    /// The bytes of the one output, or none.
-    pub(crate) fn image(&self) -> &[u8] {
-        match self.outs.written(0) {
+    /// The bytes of the output of this number, or none where it has another name.
+    pub(crate) fn output(&self, number: usize, wanted: &str) -> &[u8] {
+        match self.outs.written(number) {
             Some((name, bytes)) => {
-                if name == b"domU0.s2".as_slice() {
+                if name == wanted.as_bytes() {
                     bytes
                 } else {
                     &[]

@@ -1,0 +1,21 @@
+-- What the words that the code keeps mean.
+use Rattle.std.specs.Option.{option_copied}
+use Rattle.dom0less.specs.Words as words
+use Rattle.dom0less.specs.declared.words.Asked.{Asked}
+use Rattle.dom0less.specs.declared.words.Asked.TheVariants.{Build, Show, Script}
+use Rattle.dom0less.specs.declared.words.ScriptAsked.{ScriptAsked}
+
+-- a script that is asked for
+abbrev pub meant_script : ScriptAsked → words.ScriptAsked
+meant_script script = record {
+  config = script.config.now;
+  files = option_copied script.files;
+  outputs = option_copied script.outputs;
+  kind = script.kind;
+}
+
+-- what is asked for
+abbrev pub meant : Asked → words.Asked
+meant (Build tree) = words.Build tree.now
+meant (Show tree) = words.Show tree.now
+meant (Script script) = words.Script (meant_script script)
