@@ -3,7 +3,6 @@
 #![tactic(auto)]
 
 mod canonical;
-mod input;
 mod refusal;
 mod run;
 mod shown;

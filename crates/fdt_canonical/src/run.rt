@@ -5,9 +5,9 @@ ghost use Rattle.fdt_canonical.specs.Canonical.{IsCanonicalOf, IsRefusedBy, read
 ghost use Rattle.fdt_canonical.specs.Runs.{IsRewritten, IsRefused};
 
 use crate::canonical::canonical;
-use crate::input::read_within;
 use crate::refusal::Refusal;
 use crate::shown::line_of;
+use bounded_input::read_within;
 use std::alloc::Global;
 use std::io::{self, Read, Write};
 

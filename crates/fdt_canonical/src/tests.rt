@@ -1,5 +1,4 @@
 // Bytes worked out by hand from the layout of the standard.
-use crate::input::read_within;
 use crate::refusal::Refusal;
 use crate::run::run;
 use crate::shown::line_of;
@@ -58,13 +57,5 @@ fn lengths_have_their_lines(rt: HostRuntime) -> Result<(), Fail> {
         too_long.as_slice(),
         b"fdt_canonical: longer than 2097152\n".as_slice()
     );
-    Ok(())
-}
-
-#[test]
-fn input_is_read_up_to_its_limit(rt: HostRuntime) -> Result<(), Fail> {
-    let text: &[u8] = b"abc";
-    assert!(rt; read_within(rt.alloc(), text, 3)?.is_some());
-    assert!(rt; read_within(rt.alloc(), text, 2)?.is_none());
     Ok(())
 }

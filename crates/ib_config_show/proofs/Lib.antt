@@ -1,3 +1,2 @@
 pub mod GuestLemmas
-pub mod InputLemmas
 pub mod PartLemmas

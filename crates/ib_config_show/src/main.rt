@@ -5,7 +5,6 @@
 mod answer;
 mod fault;
 mod guest;
-mod input;
 mod line;
 mod settings;
 #[cfg(test)]
@@ -13,7 +12,7 @@ mod tests;
 mod word;
 
 use crate::answer::answer;
-use crate::input::read_within;
+use bounded_input::read_within;
 use std::io;
 use std::process::ExitCode;
 

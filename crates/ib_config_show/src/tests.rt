@@ -47,11 +47,3 @@ fn a_missing_variable_of_a_guest_is_shown_with_its_index(rt: HostRuntime) -> Res
     }
     Ok(())
 }
-
-#[test]
-fn input_is_read_up_to_its_limit(rt: HostRuntime) -> Result<(), Fail> {
-    let text: &[u8] = b"abc";
-    assert!(rt; read_within(rt.alloc(), text, 3)?.is_some());
-    assert!(rt; read_within(rt.alloc(), text, 2)?.is_none());
-    Ok(())
-}

@@ -1,6 +1,6 @@
 use Rattle.std.proofs.Common.{arith}
-use Rattle.ib_config_show.proofs.InputLemmas.{all_bytes}
-use Rattle.ib_config_show.proofs.input.read_within.Goals as goal
+use Rattle.bounded_input.proofs.InputLemmas.{all_bytes}
+use Rattle.bounded_input.proofs.within.read_within.Goals as goal
 
 pub returns-clause-whole : goal.returns-clause-whole
 returns-clause-whole g c =

@@ -1,11 +1,12 @@
-// The bytes of the input.
+// The bytes of an input.
 ghost use Rattle.std.specs.Prelude.{◌≡◌, ◌<◌, ◌≤◌, ◌^◌, IfOk, IfSome, MatchOption, length};
 
 use std::alloc::Global;
 use std::io::{self, Read};
 
-/// All the bytes of a reader; none where there are more than `limit`. An error of the reader is handed on.
-pub(crate) fn read_within<R: Read + Drop>(
+/// All the bytes of a reader; none where there are more than `limit`, of which at most one more is read. An error of the
+/// reader is handed on.
+pub fn read_within<R: Read + Drop>(
     alloc: Global,
     input: R,
     limit: u64,
