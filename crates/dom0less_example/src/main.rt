@@ -5,8 +5,8 @@
 mod job;
 mod shown;
 
-use crate::job::{Job, read_files};
-use crate::shown::{show_file, show_walk};
+use crate::job::{Job, read_files, run_job};
+use crate::shown::{show_file, show_text, show_walk};
 use std::io;
 
 /// The names of the files that the jobs read.
@@ -37,15 +37,18 @@ fn show_build(rt: &impl Print, job: &Job) -> io::Result<()> {
 fn show_script(rt: &impl Print, job: &Job) -> io::Result<()> {
     let code = job.status.code();
     println!(rt; "dom0less -c imagebuilder.cfg --script-only: status {code}")?;
-    job.show_report(rt)?;
-    job.show_output(rt, 0)
+    show_text(rt, job.out.bytes())?;
+    match job.outs.written(0) {
+        Some((_name, bytes)) => show_text(rt, bytes),
+        None => Ok(()),
+    }
 }
 
 fn main(rt: HostRuntime) -> io::Result<()> {
-    let files = read_files(&rt, &FILES)?;
-    let (build, files) = Job::run(rt.alloc(), files, &["-b", "host.dtb"])?;
+    let mut files = read_files(&rt, &FILES)?;
+    let build = run_job(rt.alloc(), &mut files, &["-b", "host.dtb"])?;
     show_build(&rt, &build)?;
     let words = ["-c", "imagebuilder.cfg", "--script-only"];
-    let (script, _files) = Job::run(rt.alloc(), files, &words)?;
+    let script = run_job(rt.alloc(), &mut files, &words)?;
     show_script(&rt, &script)
 }

@@ -1,5 +1,5 @@
 // What an image file holds, for the eye.
-ghost use Rattle.std.specs.Prelude.{◌<◌, ◌^◌};
+ghost use Rattle.std.specs.Prelude.{◌≡◌, ◌/◌, ◌%◌, ◌^◌};
 
 use std::io;
 
@@ -35,7 +35,7 @@ fn word_of(bytes: &[u8], frame: u64, index: u64) -> u64 {
 
 /// The frame that a word names.
 fn frame_in(word: u64) -> u64
-    ensures { result < 2 ^ 36 }
+    ensures { result ≡ word / 4096 % 2 ^ 36 }
 {
     word / 4096 % (1 << 36)
 }
@@ -66,4 +66,12 @@ pub(crate) fn show_walk(rt: &impl Print, bytes: &[u8], address: u64) -> io::Resu
     }
     let host = frame_in(third) * 4096 + address % 4096;
     println!(rt; "{address:#x}: words {first:#x} {second:#x} {third:#x}, host address {host:#x}")
+}
+
+/// Shows a text, if it is one.
+pub(crate) fn show_text(rt: &impl Print, bytes: &[u8]) -> io::Result<()> {
+    match str::from_utf8(bytes) {
+        Ok(text) => print!(rt; "{text}"),
+        Err(_) => Ok(()),
+    }
 }
