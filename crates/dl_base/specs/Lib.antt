@@ -1,9 +1,14 @@
 pub mod Consecutive
 pub mod Fakes
 pub mod Items
+pub mod Layouts
 pub mod Maps
 pub mod NumberTexts
 pub mod Outside
 pub mod Places
+pub mod Reasons
 pub mod Regions
+pub mod Rows
+pub mod Sound
 pub mod Statuses
+pub mod Stores

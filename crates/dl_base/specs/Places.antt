@@ -1,3 +1,4 @@
+-- For private contracts and proofs alone.
 -- Where the outputs in memory keep each file: its name and then its contents, in one list of bytes.
 use Rattle.std.specs.Prelude.{ℕ, ◌+◌, ◌≤◌, List, ◌∷◌, [], length, map, slice_range}
 use Rattle.dl_base.specs.Outside.{File}

@@ -4,7 +4,9 @@
 /// 4,096.
 #[derive(Clone, Copy, Debug, PartialEq, Eq)]
 pub struct FrameRange {
+    /// The first frame.
     pub first: u64,
+    /// How many frames there are.
     pub count: u64,
 }
 
@@ -19,18 +21,25 @@ pub enum Kind {
     Shared,
 }
 
-/// `count` guest pages from `page` on, mapped one by one to the host frames from `first` on.
+/// `count` guest pages from `page` on, mapped one by one to the host frames from `first` on. A page is named, as a frame
+/// is, by its address divided by 4,096.
 #[derive(Clone, Copy, Debug, PartialEq, Eq)]
 pub struct MapRange {
+    /// The first guest page.
     pub page: u64,
+    /// The host frame that it goes to.
     pub first: u64,
+    /// How many pages and frames there are.
     pub count: u64,
+    /// What the pages are.
     pub kind: Kind,
 }
 
-/// An address range in bytes, as an entry of a `reg` gives it (Devicetree Specification 2.3.6).
+/// A range of addresses, as an entry of a `reg` gives it (Devicetree Specification 0.4, 2.3.6).
 #[derive(Clone, Copy, Debug, PartialEq, Eq)]
 pub struct BaseSize {
+    /// The first address.
     pub base: u64,
+    /// How many bytes there are.
     pub size: u64,
 }

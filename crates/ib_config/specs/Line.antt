@@ -6,7 +6,8 @@ use Rattle.std.specs.Option.{option_or}
 use Rattle.std.specs.Str.{is_utf8}
 use Rattle.std.specs.Str.Lines.{strip_carriage_return}
 use Rattle.std.specs.Str.Parse.{digits_value}
-use Rattle.ib_config.specs.Runs.{run_of, after_run, first_is, is_empty, first_fault}
+use Rattle.dl_base.specs.Rows.{first_that_applies}
+use Rattle.ib_config.specs.Runs.{run_of, after_run, first_is, is_empty}
 use Rattle.ib_config.specs.declared.assignments.Key.{Key}
 use Rattle.ib_config.specs.declared.fault.ConfigFault.{ConfigFault}
 use Rattle.ib_config.specs.declared.fault.ConfigFault.TheVariants.{NotUtf8, BadName, BadIndex, OpenQuote, NotPlain, Unsupported}
@@ -147,7 +148,7 @@ body_faults n body =
 
 -- the first fault of a line: that it is no UTF-8, else that of what it says
 unfoldable pub line_fault : ℕ → List ℕ → Option ConfigFault
-line_fault n line = first_fault ((not (is_utf8 line), NotUtf8 n) ∷ (if says_nothing (body_of line) then [] else body_faults n (body_of line)))
+line_fault n line = first_that_applies ((not (is_utf8 line), NotUtf8 n) ∷ (if says_nothing (body_of line) then [] else body_faults n (body_of line)))
 
 -- the variable that a line assigns, and the text that it gives it
 pub record Assignment : Type 0 where

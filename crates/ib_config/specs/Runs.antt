@@ -1,5 +1,5 @@
--- Fronts of lists, and the first of several faults.
-use Rattle.std.specs.Prelude.{Bool, true, false, cond, List, [], ◌∷◌, Option, Some, None}
+-- Fronts of lists.
+use Rattle.std.specs.Prelude.{Bool, true, false, cond, List, [], ◌∷◌}
 
 -- the longest front whose members all pass, and what follows it
 abbrev pub run_of : {A : Type 0} → (A → Bool) → List A → List A
@@ -20,8 +20,3 @@ first_is p (x ∷ xs) = p x
 abbrev pub is_empty : {A : Type 0} → List A → Bool
 is_empty [] = true
 is_empty (x ∷ xs) = false
-
--- the first of the faults whose test holds
-abbrev pub first_fault : {F : Type 0} → List (Bool × F) → Option F
-first_fault [] = None
-first_fault (t ∷ ts) = cond t.0 (Some t.1) (first_fault ts)

@@ -9,7 +9,8 @@ use Rattle.std.specs.List.{list_any}
 use Rattle.ib_config.specs.declared.groups.PortGroup.{PortGroup}
 use Rattle.ib_config.specs.declared.assignments.Key.{Key}
 use Rattle.ib_config.specs.Words.{is_space}
-use Rattle.ib_config.specs.Runs.{first_fault, run_of, after_run}
+use Rattle.dl_base.specs.Rows.{first_that_applies}
+use Rattle.ib_config.specs.Runs.{run_of, after_run}
 use Rattle.ib_config.specs.Variables.{Assigned, assigned_in, same_key}
 use Rattle.ib_config.specs.Settings.{◌>>=◌}
 use Rattle.ib_config.specs.Line.{lines_of, first_line_fault, assignments_of, has_name, name_of, after_name, is_unsupported, Assignment, has_bracket, has_index, value_part, index_of, body_faults, assigned_by, not_blank, until, is_open, is_plain_part, value_of_part, is_blank, is_digit, is_name_byte, line_fault, assignment_of}
@@ -38,11 +39,11 @@ line_read n line = unless (line_fault n line) (assignment_of line)
 
 -- the same of a line that says something, without its leading blanks
 unfoldable pub body_read : ℕ → List ℕ → Result Assignment ConfigFault
-body_read n body = unless (first_fault (body_faults n body)) (assigned_by body)
+body_read n body = unless (first_that_applies (body_faults n body)) (assigned_by body)
 
 -- the index, if there is one, and the part behind the `=`
 unfoldable pub index_read : ℕ → List ℕ → Result (Option ℕ × List ℕ) ConfigFault
-index_read n after = unless (first_fault ((has_bracket after && not (has_index after), BadIndex n) ∷ [])) (index_of after, value_part after)
+index_read n after = unless (first_that_applies ((has_bracket after && not (has_index after), BadIndex n) ∷ [])) (index_of after, value_part after)
 
 -- an assignment without where it lies in memory
 abbrev pub view : Found → Assignment
@@ -50,7 +51,7 @@ view f = record { key = record { name = f.name.now; index = f.index }; text = f.
 
 -- the value of the part behind the `=`, or its first fault
 unfoldable pub part_read : ℕ → List ℕ → Result (List ℕ) ConfigFault
-part_read n part = unless (first_fault ((is_open part, OpenQuote n) ∷ (not (is_plain_part part), NotPlain n) ∷ [])) (value_of_part part)
+part_read n part = unless (first_that_applies ((is_open part, OpenQuote n) ∷ (not (is_plain_part part), NotPlain n) ∷ [])) (value_of_part part)
 
 -- the same, one part after the other
 unfoldable pub body_steps : ℕ → List ℕ → Result Assignment ConfigFault
