@@ -9,7 +9,8 @@ use Rattle.fdt_read.specs.Built.{has_no_nul, ends_names}
 use Rattle.fdt_read.specs.Tokens.{Token, begin_node, end_node, property, nop, end, broken, text, padded, name_at, if_within, begin_node_at, property_at, token_of, token_at, is_final, tokens_from, tokens}
 use Rattle.fdt_read.specs.Spelling.{spelled_properties, spelled, spelled_whole, counts, root_unnamed, counting, without_offsets, is_name, are_named, are_names}
 use Rattle.fdt_read.proofs.Texts.{no_nul-before}
-use Rattle.fdt_write.specs.Laws.{have_names, are_kept}
+use Rattle.fdt_tree.specs.Document.{have_names}
+use Rattle.fdt_tree.specs.Whole.{are_kept}
 
 -- a name that was found has no NUL
 abbrev pub IsEnded : Option Bytes → Type 0

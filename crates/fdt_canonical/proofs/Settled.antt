@@ -10,7 +10,8 @@ use Rattle.fdt_read.specs.Header.{word, wide, total_size, reservations_offset}
 use Rattle.fdt_read.specs.Reservations.{first_pair, pairs_up_to, pairs, is_last_pair, reservations_block, reservations}
 use Rattle.fdt_read.specs.Spells.{Spells}
 use Rattle.fdt_write.specs.Flattened.{flattened, length_limit}
-use Rattle.fdt_write.specs.Laws.{AreReserves, IsKept, IsWide}
+use Rattle.fdt_tree.specs.Whole.{IsKept}
+use Rattle.fdt_write.specs.Laws.{AreReserves, IsWide}
 use Rattle.fdt_write.proofs.ReadBack.{is_read_back}
 use Rattle.fdt_canonical.specs.Canonical.{IsCanonicalOf}
 use Rattle.fdt_canonical.proofs.ReadLemmas.{not_last_read}

@@ -65,5 +65,5 @@ pub fn list(alloc: Global, tree: &Tree, reserves: &[Reserve]) -> Result<Vec<u8>,
     let mut out = Bytes::new(alloc);
     append_reserves(alloc, &mut out, reserves)?;
     append_nodes(alloc, &mut out, tree)?;
-    Ok(out.into_vec())
+    out.into_vec()
 }

@@ -3,8 +3,10 @@ use Rattle.std.proofs.Common.{◌≡◌, ℕ, suc, ◌+◌, ◌<◌, ◌≤◌, 
 use Rattle.std.proofs.lemmas.Bool.{and_parts, not-true}
 use Rattle.fdt_tree.specs.Tree.{Bytes, Property, Trees, none, tree, Tree, depth_limit}
 use Rattle.fdt_read.specs.Tokens.{Token, begin_node, end_node, property, nop, end, broken}
-use Rattle.fdt_read.specs.Spelling.{counts, root_unnamed, plain, spelled_properties, spelled, spelled_whole, is_name, are_named, are_names, height}
-use Rattle.fdt_read.specs.Refusals.{is_begin, is_end_node, open_after, has_node, after_child, fault_after, first_fault, or_else}
+use Rattle.fdt_tree.specs.Whole.{height}
+use Rattle.fdt_read.specs.Spelling.{counts, root_unnamed, plain, spelled_properties, spelled, spelled_whole, is_name, are_named, are_names}
+use Rattle.std.specs.Option.{option_or}
+use Rattle.fdt_read.specs.Refusals.{is_begin, is_end_node, open_after, has_node, after_child, fault_after, first_fault}
 use Rattle.fdt_read.proofs.Formed.{names_of}
 use Rattle.fdt_read.proofs.Progress.{count_last, after_child-last, has_last}
 use Rattle.fdt_read.proofs.Counted.{node-begin, node-nop}
@@ -26,7 +28,7 @@ record Head (x : Token) (xs before : List Token) (found : List (ℕ × Token)) :
   node : has_node done ≡ has_node before
   past : after_child done ≡ after_child before
   left : counted rest ≡ xs
-  same : first_fault before found ≡ or_else (fault_after done (offset, x)) (first_fault (done ++ x ∷ []) rest)
+  same : first_fault before found ≡ option_or (fault_after done (offset, x)) (first_fault (done ++ x ∷ []) rest)
 
 first_of : (y : Token) (o : ℕ) (rest : List (ℕ × Token)) (x : Token) (xs before : List Token) → y ∷ counted rest ≡ x ∷ xs → Head x xs before ((o, y) ∷ rest)
 first_of y o rest x xs before e =
@@ -39,7 +41,7 @@ first_of y o rest x xs before e =
       node = refl;
       past = refl;
       left = g;
-      same = ap (λ (z : Token). or_else (fault_after before (o, z)) (first_fault (before ++ z ∷ []) rest)) h;
+      same = ap (λ (z : Token). option_or (fault_after before (o, z)) (first_fault (before ++ z ∷ []) rest)) h;
     }
 
 head : (found : List (ℕ × Token)) (x : Token) (xs before : List Token) → counted found ≡ x ∷ xs → Head x xs before found

@@ -8,7 +8,8 @@ use Rattle.fdt_read.specs.declared.fault.FdtFault.TheVariants.{Memory}
 use Rattle.fdt_read.specs.Header.{structure_offset, structure_end, structure_size, boot_processor}
 use Rattle.fdt_read.specs.Reservations.{reservations}
 use Rattle.fdt_read.specs.Tokens.{tokens}
-use Rattle.fdt_read.specs.Refusals.{header_fault, first_fault, refusal, or_else}
+use Rattle.std.specs.Option.{option_or}
+use Rattle.fdt_read.specs.Refusals.{header_fault, first_fault, refusal}
 use Rattle.fdt_read.specs.Built.{before}
 use Rattle.fdt_read.specs.Spells.{Spells}
 use Rattle.fdt_read.specs.Laws.{SpellsNone, IsDecided}
@@ -33,7 +34,7 @@ unrefused b e =
       },
     )
 
-unspelled : (x y : Option FdtFault) (fault : FdtFault) → x ≡ None → y ≡ None → or_else x y ≡ Some fault → ⊥
+unspelled : (x y : Option FdtFault) (fault : FdtFault) → x ≡ None → y ≡ None → option_or x y ≡ Some fault → ⊥
 unspelled None None fault p q e = cc
 unspelled None (Some g) fault p q e = cc
 unspelled (Some f) y fault p q e = cc

@@ -3,7 +3,8 @@ use Rattle.std.proofs.Common.{◌≡◌, ℕ, zero, suc, ◌+◌, ◌<◌, ◌�
 use Rattle.std.proofs.lemmas.Bool.{and_parts, and_from}
 use Rattle.std.proofs.lemmas.List.Folds.{list_all-append}
 use Rattle.fdt_tree.specs.Tree.{Bytes, Property, Trees, none, tree, Tree, Place, depth, depth_limit, with_last, edit_in, edit, add_child, change_properties}
-use Rattle.fdt_read.specs.Spelling.{is_name, are_named, are_names, height}
+use Rattle.fdt_tree.specs.Whole.{height}
+use Rattle.fdt_read.specs.Spelling.{is_name, are_named, are_names}
 use Rattle.fdt_read.specs.Built.{IsFormed}
 
 pub record HaveNames (n : Bytes) (ps : List Property) (cs rest : Trees) : Type 0 where

@@ -6,18 +6,19 @@ use Rattle.fdt_tree.specs.declared.edit_fault.EditFault.{EditFault}
 use Rattle.fdt_tree.proofs.Links.{place-new}
 use Rattle.fdt_read.specs.declared.building.Building.{Building}
 use Rattle.fdt_read.specs.Tokens.{Token, begin_node, nop, is_final}
-use Rattle.fdt_read.specs.Refusals.{first_row, rows_at, fault_after, open_after, has_node}
+use Rattle.dl_base.specs.Rows.{first_that_applies}
+use Rattle.fdt_read.specs.Refusals.{rows_at, fault_after, open_after, has_node}
 use Rattle.fdt_read.specs.Built.{Shape, IsBuilding, IsWhole}
 use Rattle.fdt_read.proofs.Counted.{level-nop, node-nop}
 use Rattle.fdt_read.proofs.Progress.{after_child-last}
 use Rattle.fdt_read.proofs.Steps.{shape-nop, shape-child, shape-final}
 
 -- The fault of a token, by what the reader keeps.
-pub fault_here : (done : List Token) (b : Building) (o : ℕ) (x : Token) → IsBuilding done b → first_row (rows_at b.level b.started b.past_child o x) ≡ fault_after done (o, x)
+pub fault_here : (done : List Token) (b : Building) (o : ℕ) (x : Token) → IsBuilding done b → first_that_applies (rows_at b.level b.started b.past_child o x) ≡ fault_after done (o, x)
 fault_here done b o x i =
-    ap (λ n. first_row (rows_at n b.started b.past_child o x)) i.level ∙ (ap (λ s. first_row (rows_at (open_after done) s b.past_child o x)) i.started ∙ ap (λ s. first_row (rows_at (open_after done) (has_node done) s o x)) i.past_child)
+    ap (λ n. first_that_applies (rows_at n b.started b.past_child o x)) i.level ∙ (ap (λ s. first_that_applies (rows_at (open_after done) s b.past_child o x)) i.started ∙ ap (λ s. first_that_applies (rows_at (open_after done) (has_node done) s o x)) i.past_child)
 
-pub no_fault : (done : List Token) (b : Building) (o : ℕ) (x : Token) → IsBuilding done b → first_row (rows_at b.level b.started b.past_child o x) ≡ None → fault_after done (o, x) ≡ None
+pub no_fault : (done : List Token) (b : Building) (o : ℕ) (x : Token) → IsBuilding done b → first_that_applies (rows_at b.level b.started b.past_child o x) ≡ None → fault_after done (o, x) ≡ None
 no_fault done b o x i e = sym (fault_here done b o x i) ∙ e
 
 -- The node that is open, if one is.
@@ -63,5 +64,5 @@ pub on_ok : {A E : Type 0} (r : Result A E) (P Q : Type 0) → (P → Q) → OnO
 on_ok (Ok x) P Q f h = f h
 on_ok (Err e) P Q f h = tt
 
-pub building-final : (done : List Token) (b : Building) (o : ℕ) (x : Token) → IsBuilding done b → is_final x ≡ true → first_row (rows_at b.level b.started b.past_child o x) ≡ None → IsWhole (done ++ x ∷ []) b.tree.tree
+pub building-final : (done : List Token) (b : Building) (o : ℕ) (x : Token) → IsBuilding done b → is_final x ≡ true → first_that_applies (rows_at b.level b.started b.past_child o x) ≡ None → IsWhole (done ++ x ∷ []) b.tree.tree
 building-final done b o x i f e = shape-final done b.tree.tree _ o x i.shape f (no_fault done b o x i e)

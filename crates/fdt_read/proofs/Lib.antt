@@ -1,3 +1,4 @@
+pub mod WordLemmas
 pub mod Opened
 pub mod Formed
 pub mod Progress

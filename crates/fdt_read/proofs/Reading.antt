@@ -7,14 +7,15 @@ use Rattle.fdt_tree.specs.Document.{children_at, parent_place}
 use Rattle.fdt_read.specs.declared.fault.FdtFault.{FdtFault}
 use Rattle.fdt_read.specs.Header.{word}
 use Rattle.fdt_read.specs.Tokens.{Token, begin_node, end_node, property, nop, end, broken, text, padded, name_at, if_within, begin_node_at, property_at, token_of, token_at, is_final, tokens_from}
-use Rattle.fdt_read.specs.Refusals.{fault_after, first_fault, or_else, open_after, has_node, after_child}
+use Rattle.std.specs.Option.{option_or}
+use Rattle.fdt_read.specs.Refusals.{fault_after, first_fault, open_after, has_node, after_child}
 use Rattle.fdt_read.specs.Built.{Shape, IsWhole}
 use Rattle.fdt_read.proofs.Formed.{put}
 use Rattle.fdt_read.proofs.Fine.{fine_child, no_unnamed}
 use Rattle.fdt_read.proofs.Counted.{level-nop, level-property, level-end, level-child}
 use Rattle.fdt_read.proofs.Steps.{shape-nop, shape-root, root_level, shape-child, shape-property, shape-end, shape-final, closed_property, closed_end, open_node, open_level}
 
-pub or_both : (x y : Option FdtFault) → or_else x y ≡ None → (x ≡ None) × (y ≡ None)
+pub or_both : (x y : Option FdtFault) → option_or x y ≡ None → (x ≡ None) × (y ≡ None)
 or_both None y e = (refl, e)
 or_both (Some f) y e = absurd (cc)
 

@@ -6,8 +6,10 @@ use Rattle.fdt_tree.specs.Document.{empty, place_of, children_at}
 use Rattle.fdt_read.specs.declared.building.Building.{Building}
 use Rattle.fdt_read.specs.Header.{total_size, structure_end, strings_end}
 use Rattle.fdt_read.specs.Tokens.{Token, begin_node, end_node, property}
-use Rattle.fdt_read.specs.Spelling.{spelled_properties, spelled, spelled_whole, plain, are_named, are_names, height}
-use Rattle.fdt_read.specs.Refusals.{first_row, rows_at, is_begin, is_end_node, open_after, has_node, after_child}
+use Rattle.fdt_tree.specs.Whole.{height}
+use Rattle.fdt_read.specs.Spelling.{spelled_properties, spelled, spelled_whole, plain, are_named, are_names}
+use Rattle.dl_base.specs.Rows.{first_that_applies}
+use Rattle.fdt_read.specs.Refusals.{rows_at, is_begin, is_end_node, open_after, has_node, after_child}
 
 -- The header is whole, and the blocks that it names are within the file.
 pub record IsLaidOut (bytes : Bytes) : Type 0 where
@@ -71,7 +73,7 @@ pub record IsBuilding (done : List Token) (b : Building) : Type 0 where
 
 -- The token has no fault, by what is kept of those before it.
 abbrev pub IsFine : Building → Token → Type 0
-IsFine b token = first_row (rows_at b.level b.started b.past_child 0 token) ≡ None
+IsFine b token = first_that_applies (rows_at b.level b.started b.past_child 0 token) ≡ None
 
 -- The tokens are those of a whole tree.
 pub record IsWhole (found : List Token) (t : Tree) : Type 0 where

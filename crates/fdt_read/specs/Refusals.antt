@@ -1,6 +1,8 @@
 -- The first refusal of a file that is no flattened tree.
 use Rattle.std.specs.Prelude.{ℕ, ◌-◌, ◌%◌, Bool, true, false, ◌==◌, nat_lt, ◌&&◌, ◌||◌, not, List, [], ◌∷◌, ◌++◌, if◌then◌else◌, Option, Some, None, length, count_by}
 use Rattle.std.specs.List.{list_any}
+use Rattle.std.specs.Option.{option_or}
+use Rattle.dl_base.specs.Rows.{first_that_applies}
 use Rattle.fdt_tree.specs.Tree.{Bytes, depth_limit}
 use Rattle.fdt_read.specs.declared.fault.FdtFault.{FdtFault}
 use Rattle.fdt_read.specs.declared.fault.FdtFault.TheVariants.{Magic, Version, Bounds, Token as BadToken, Name, Order, Deep}
@@ -8,11 +10,6 @@ use Rattle.fdt_read.specs.Header.{magic, total_size, structure_offset, structure
 use Rattle.fdt_read.specs.Reservations.{reservations_end}
 use Rattle.fdt_read.specs.Tokens.{Token, begin_node, end_node, property, nop, end, broken, tokens}
 use Rattle.fdt_read.specs.Spelling.{is_name}
-
--- The fault of the first row that applies.
-abbrev pub first_row : List (Bool × FdtFault) → Option FdtFault
-first_row [] = None
-first_row (row ∷ rows) = if row.0 then Some row.1 else first_row rows
 
 -- The refusals of the header and of where the blocks lie, in their order (5.2).
 abbrev pub layout_rows : Bytes → List (Bool × FdtFault)
@@ -25,7 +22,7 @@ is_reservations_fault bytes = not (reservations_offset bytes % 8 == 0) || not (r
 
 -- The first fault of the header and of the reservations; Bounds names the field of the header that places a block.
 abbrev pub header_fault : Bytes → Option FdtFault
-header_fault bytes = first_row (layout_rows bytes ++ (is_reservations_fault bytes, Bounds 16) ∷ [])
+header_fault bytes = first_that_applies (layout_rows bytes ++ (is_reservations_fault bytes, Bounds 16) ∷ [])
 
 -- Whether a token is BEGIN_NODE (5.4.1).
 abbrev pub is_begin : Token → Bool
@@ -95,18 +92,13 @@ rows_at level started past_child offset token =
 -- The fault of a token at an offset, where these tokens stand before it.
 abbrev pub fault_after : List Token → ℕ × Token → Option FdtFault
 fault_after before found =
-    first_row (rows_at (open_after before) (has_node before) (after_child before) found.0 found.1)
-
--- The first answer, or else the second.
-abbrev pub or_else : Option FdtFault → Option FdtFault → Option FdtFault
-or_else None second = second
-or_else (Some fault) second = Some fault
+    first_that_applies (rows_at (open_after before) (has_node before) (after_child before) found.0 found.1)
 
 -- The fault of the first token that is refused.
 abbrev pub first_fault : List Token → List (ℕ × Token) → Option FdtFault
 first_fault before [] = None
-first_fault before (found ∷ rest) = or_else (fault_after before found) (first_fault (before ++ found.1 ∷ []) rest)
+first_fault before (found ∷ rest) = option_or (fault_after before found) (first_fault (before ++ found.1 ∷ []) rest)
 
 -- The first refusal of a file.
 abbrev pub refusal : Bytes → Option FdtFault
-refusal bytes = or_else (header_fault bytes) (first_fault [] (tokens bytes))
+refusal bytes = option_or (header_fault bytes) (first_fault [] (tokens bytes))

@@ -1,5 +1,5 @@
 -- Which tokens spell a tree (Devicetree Specification 0.4, 5.4.2).
-use Rattle.std.specs.Prelude.{ℕ, suc, max, Bool, true, false, ◌==◌, ◌&&◌, not, List, [], ◌∷◌, ◌++◌, Some, map, filter, length}
+use Rattle.std.specs.Prelude.{ℕ, Bool, true, false, ◌==◌, ◌&&◌, not, List, [], ◌∷◌, ◌++◌, Some, map, filter, length}
 use Rattle.std.specs.List.{list_all}
 use Rattle.fdt_tree.specs.Tree.{Bytes, Property, Trees, none, tree, Tree}
 use Rattle.fdt_read.specs.Tokens.{Token, begin_node, end_node, property, nop, end}
@@ -54,8 +54,3 @@ abbrev pub are_names : Trees → Bool
 are_names none = true
 are_names (tree name properties children rest) =
     is_name name && (are_named properties && (are_names children && are_names rest))
-
--- How deep the trees are.
-abbrev pub height : Trees → ℕ
-height none = 0
-height (tree name properties children rest) = max (suc (height children)) (height rest)

@@ -5,7 +5,8 @@ use Rattle.fdt_tree.specs.declared.reserve.Reserve.{Reserve}
 use Rattle.fdt_read.specs.Header.{boot_processor}
 use Rattle.fdt_read.specs.Reservations.{reservations}
 use Rattle.fdt_read.specs.Tokens.{tokens}
-use Rattle.fdt_read.specs.Spelling.{spelled_whole, counting, are_named, are_names, height}
+use Rattle.fdt_tree.specs.Whole.{height}
+use Rattle.fdt_read.specs.Spelling.{spelled_whole, counting, are_named, are_names}
 use Rattle.fdt_read.specs.Refusals.{header_fault}
 
 -- The file is a flattened tree: it spells these reservations, this boot processor and this tree.

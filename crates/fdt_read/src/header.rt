@@ -2,14 +2,15 @@
 ghost use Rattle.std.specs.Prelude.{◌≡◌, ◌≤◌, IfNone, ◌==◌, length};
 ghost use Rattle.fdt_read.specs.Built.{IsLaidOut};
 ghost use Rattle.fdt_read.specs.Header.{magic};
-ghost use Rattle.fdt_read.specs.Refusals.{first_row, layout_rows};
+ghost use Rattle.dl_base.specs.Rows.{first_that_applies};
+ghost use Rattle.fdt_read.specs.Refusals.{layout_rows};
 
 use crate::fault::FdtFault;
 use crate::words::word_of;
 
 /// The first fault of the header and of where the structure block and the strings block lie (5.2).
 pub fn layout_fault(bytes: &[u8]) -> Option<FdtFault>
-    ensures first { result ≡ first_row (layout_rows bytes.now) }
+    ensures first { result ≡ first_that_applies (layout_rows bytes.now) }
     ensures laid_out { IfNone result (IsLaidOut bytes.now) }
 {
     if bytes.len() < 4 || word_of(bytes, 0) != 0xd00d_feed {

@@ -2,7 +2,8 @@
 ghost use Rattle.std.specs.Prelude.{◌≡◌, ◌==◌, not};
 ghost use Rattle.std.specs.List.{list_all};
 ghost use Rattle.fdt_read.specs.Found.{meant};
-ghost use Rattle.fdt_read.specs.Refusals.{first_row, rows_at};
+ghost use Rattle.dl_base.specs.Rows.{first_that_applies};
+ghost use Rattle.fdt_read.specs.Refusals.{rows_at};
 ghost use Rattle.fdt_read.specs.Spelling.{is_name};
 
 use crate::fault::FdtFault;
@@ -31,7 +32,7 @@ pub fn fault_of(
     offset: u64,
     found: &Found,
 ) -> Option<FdtFault>
-    ensures { result ≡ first_row (rows_at level started past_child offset (meant found.now)) }
+    ensures { result ≡ first_that_applies (rows_at level started past_child offset (meant found.now)) }
 {
     match found {
         Found::Broken => Some(FdtFault::Token(offset)),

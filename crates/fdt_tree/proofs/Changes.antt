@@ -1,9 +1,10 @@
 -- A change of the properties of one node, in the code and in the document.
-use Rattle.std.proofs.Common.{◌≡◌, ◌≢◌, ◌⊎◌, inl, inr, ℕ, zero, suc, ◌+◌, ◌<◌, List, [], ◌∷◌, ◌++◌, Some, option_map, length, map, fold, get_or, set, slice_get, unwrap_or, refl, sym, ap, ◌∙◌, subst, arith, length-append}
+use Rattle.std.specs.Prelude.{◌&&◌}
+use Rattle.std.proofs.Common.{IsTrue, Bool, true, false, ◌≡◌, ◌≢◌, ◌⊎◌, inl, inr, ℕ, zero, suc, ◌+◌, ◌<◌, List, [], ◌∷◌, ◌++◌, Some, option_map, length, map, fold, get_or, set, slice_get, unwrap_or, refl, sym, ap, ◌∙◌, subst, arith, length-append}
 use Rattle.std.proofs.lemmas.Bool.{cases_eq}
-use Rattle.fdt_tree.specs.Tree.{Property, Trees, none, tree, Tree, Place, at_in, at, count, edit_in, edit, add_child, change_properties}
-use Rattle.fdt_tree.specs.Document.{Document, place_of, node_at, children_at, with_properties}
-use Rattle.fdt_tree.specs.Assembled.{summary, Added, added, grown, rooted, document, IsNodeOf, IsLinked}
+use Rattle.fdt_tree.specs.Tree.{Property, Trees, none, tree, Tree, Place, at_in, at, count, edit_in, edit, add_child, change_properties, is_property_name}
+use Rattle.fdt_tree.specs.Document.{Document, place_of, node_at, children_at, with_properties, have_names}
+use Rattle.fdt_tree.specs.Assembled.{summary, Added, added, grown, rooted, document, IsNodeOf, HasNames, IsLinked}
 use Rattle.fdt_tree.specs.declared.node.Node.{Node}
 use Rattle.fdt_tree.proofs.Edits.{Extends, add_child-Extends, change_properties-Extends, at-edit_same, at-edit_other, at-new, count-edit_in, edits, edit-new, name-edit}
 use Rattle.fdt_tree.proofs.Links.{some_of, children_at-there, place-old, place-new}
@@ -146,7 +147,7 @@ was g (m ∷ nodes) zero (suc i) n e = kept (λ q. omega arith) e
 was g (m ∷ nodes) (suc p) zero n e = kept (λ q. omega arith) e
 was g (m ∷ nodes) (suc p) (suc i) n e = onward m (was g nodes p i n e)
 
-module _ (g : List Property → List Property) (d : Document) (nodes : List Node) (p : ℕ) (l : IsLinked d nodes) (h : p < length nodes) where
+module _ (g : List Property → List Property) (d : Document) (nodes : List Node) (p : ℕ) (l : IsLinked d nodes) (h : p < length nodes) (good : (ps : List Property) → IsTrue (have_names ps) → IsTrue (have_names (g ps))) where
   abbrev d' : Document
   d' = with_properties d (place_of d p) g
 
@@ -181,6 +182,11 @@ module _ (g : List Property → List Property) (d : Document) (nodes : List Node
   node_of i n b (here m q e f) =
       subst (λ (z : Node). IsNodeOf d' i z) (sym f) (subst (λ (z : ℕ). IsNodeOf d' z (record m { properties = g m.properties })) (sym q) (changed_node m (ap (slice_get nodes) (sym q) ∙ e)))
 
+  named_of : (i : ℕ) (n : Node) → Was g nodes p i n → HasNames i n
+  named_of i n (kept ne e) = l.named i n e
+  named_of i n (here m q e f) =
+      subst (λ (z : Node). HasNames i z) (sym f) (let w = l.named i m e in record { name = w.name; properties = good m.properties w.properties })
+
   pub IsLinked-changed : IsLinked (with_properties d (place_of d p) g) (changed g nodes p)
   IsLinked-changed = record {
     some = omega (arith, l.some, length-changed g nodes p);
@@ -188,6 +194,7 @@ module _ (g : List Property → List Property) (d : Document) (nodes : List Node
     root = l.root;
     numbered = l.numbered ∙ sym (length-changed g nodes p);
     nodes_of = λ i n e. node_of i n (omega (arith, in_range (changed g nodes p) i n e, length-changed g nodes p)) (was g nodes p i n e);
+    named = λ i n e. named_of i n (was g nodes p i n e);
     distinct = λ i j a b e. l.distinct i j (omega (arith, length-changed g nodes p)) (omega (arith, length-changed g nodes p)) e;
   }
     where
@@ -196,7 +203,20 @@ module _ (g : List Property → List Property) (d : Document) (nodes : List Node
       in_range (x ∷ xs) zero n e = omega arith
       in_range (x ∷ xs) (suc i) n e = omega (arith, in_range xs i n e)
 
+-- A last property with a name that it may have.
+pub named-last : (ps : List Property) (p : Property) → IsTrue (have_names ps) → IsTrue (is_property_name p.0) → IsTrue (have_names (ps ++ p ∷ []))
+named-last [] p h good = by (is_property_name p.0) good
+  where
+    by : (b : Bool) → IsTrue b → IsTrue (b && true)
+    by true h = h
+    by false h = h
+named-last (q ∷ ps) p h good = by (is_property_name q.0) h (named-last ps p)
+  where
+    by : (b : Bool) → IsTrue (b && have_names ps) → (IsTrue (have_names ps) → IsTrue (is_property_name p.0) → IsTrue (have_names (ps ++ p ∷ []))) → IsTrue (b && have_names (ps ++ p ∷ []))
+    by true h rest = rest h good
+    by false h rest = h
+
 -- What the code holds after the properties of a node were changed.
-pub after_change : (g : List Property → List Property) (v : Document) (nodes items : List Node) (p j : ℕ) (n : Node) (ps : List Property) → IsLinked (document nodes) nodes → document nodes ≡ v → p ≡ j → j < length v.places → n ≡ get_or nodes p n → ps ≡ g n.properties → items ≡ set nodes p (record n { properties = ps }) → IsLinked (document items) items × (document items ≡ with_properties v (place_of v j) g)
-after_change g v nodes items p j n ps l e q h k r a =
-    let w : p < length nodes = omega (arith, l.numbered, q, h, ap (λ (z : Document). length z.places) e) in let b : items ≡ changed g nodes p = a ∙ set-changed g nodes p n ps w k r in let c : document (changed g nodes p) ≡ with_properties (document nodes) (place_of (document nodes) p) g = document-changed g nodes p w (λ i m z y. (l.nodes_of i m z).earlier y) in (subst (λ (z : List Node). IsLinked (document z) z) (sym b) (subst (λ (z : Document). IsLinked z (changed g nodes p)) (sym c) (IsLinked-changed g (document nodes) nodes p l w)), ap document b ∙ (c ∙ (ap (λ (z : Document). with_properties z (place_of z p) g) e ∙ ap (λ z. with_properties v (place_of v z) g) q)))
+pub after_change : (g : List Property → List Property) (v : Document) (nodes items : List Node) (p j : ℕ) (n : Node) (ps : List Property) → IsLinked (document nodes) nodes → document nodes ≡ v → p ≡ j → j < length v.places → n ≡ get_or nodes p n → ps ≡ g n.properties → items ≡ set nodes p (record n { properties = ps }) → ((qs : List Property) → IsTrue (have_names qs) → IsTrue (have_names (g qs))) → IsLinked (document items) items × (document items ≡ with_properties v (place_of v j) g)
+after_change g v nodes items p j n ps l e q h k r a good =
+    let w : p < length nodes = omega (arith, l.numbered, q, h, ap (λ (z : Document). length z.places) e) in let b : items ≡ changed g nodes p = a ∙ set-changed g nodes p n ps w k r in let c : document (changed g nodes p) ≡ with_properties (document nodes) (place_of (document nodes) p) g = document-changed g nodes p w (λ i m z y. (l.nodes_of i m z).earlier y) in (subst (λ (z : List Node). IsLinked (document z) z) (sym b) (subst (λ (z : Document). IsLinked z (changed g nodes p)) (sym c) (IsLinked-changed g (document nodes) nodes p l w good)), ap document b ∙ (c ∙ (ap (λ (z : Document). with_properties z (place_of z p) g) e ∙ ap (λ z. with_properties v (place_of v z) g) q)))

@@ -2,8 +2,12 @@ pub mod Changes
 pub mod Cuts
 pub mod Edits
 pub mod Links
+pub mod Numbers
 pub mod Names
 pub mod Instances
 pub mod Order
 pub mod Walking
+pub mod VisitLemmas
 pub mod PhandleLemmas
+pub mod SetLemmas
+pub mod WholeLemmas

@@ -1,14 +1,14 @@
 -- A node that is added below another, in the code and in the document.
-use Rattle.std.proofs.Common.{IsSome, ◌≡◌, ◌≢◌, ◌⊎◌, inl, inr, ℕ, zero, suc, ◌+◌, ◌<◌, ◌≤◌, List, [], ◌∷◌, ◌++◌, Option, Some, None, option_map, option_and_then, length, map, get_or, set, slice_get, ne_eqb, Ok, Err, cond, refl, sym, ap, ◌∙◌, subst, arith, length-append, unwrap_or}
+use Rattle.std.proofs.Common.{IsSome, IsTrue, ◌≡◌, ◌≢◌, ◌⊎◌, inl, inr, ℕ, zero, suc, ◌+◌, ◌<◌, ◌≤◌, List, [], ◌∷◌, ◌++◌, Option, Some, None, option_map, option_and_then, length, map, get_or, set, slice_get, ne_eqb, Ok, Err, cond, refl, sym, ap, ◌∙◌, subst, arith, append_assoc, length-append, unwrap_or}
 use Rattle.std.proofs.Math.ListN.{get_or-append}
 use Rattle.std.proofs.Math.Seq.{get_or-append_seam}
 use Rattle.std.proofs.lemmas.List.{map-append}
 use Rattle.std.proofs.lemmas.List.Sums.{fold-append}
 use Rattle.std.proofs.lemmas.Bool.{cases_eq}
 use Rattle.std.specs.Option.{option_map_or}
-use Rattle.fdt_tree.specs.Tree.{Bytes, Property, Trees, none, tree, Tree, Place, at_in, at, count, with_last, add_child, depth, depth_limit}
-use Rattle.fdt_tree.specs.Document.{IsNumbering, if_there, Document, place_of, node_at, name_of, children_of, parent_place, next_place, children_at, with_node, with_child, with_child_of}
-use Rattle.fdt_tree.specs.Assembled.{summary, Added, added, grown, assembled, document, IsNodeOf, IsLinked, with_child_number, linked}
+use Rattle.fdt_tree.specs.Tree.{Bytes, Property, Trees, none, tree, Tree, Place, at_in, at, count, with_last, add_child, depth, depth_limit, is_node_name}
+use Rattle.fdt_tree.specs.Document.{IsNumbering, IsNamed, have_names, if_there, Document, place_of, node_at, name_of, children_of, parent_place, next_place, children_at, with_node, with_child, with_child_of}
+use Rattle.fdt_tree.specs.Assembled.{summary, Added, added, grown, assembled, document, IsNodeOf, HasNames, IsLinked, with_child_number, linked}
 use Rattle.fdt_tree.specs.declared.node.Node.{Node}
 use Rattle.fdt_tree.specs.declared.edit_fault.EditFault.TheVariants.{Deep}
 use Rattle.fdt_tree.proofs.Edits.{add_child-Extends, at-edit_same, at-edit_other, at-past, at-new, at-below, at_in-beyond, at_in-within, name-edit}
@@ -124,7 +124,7 @@ pub or_of : {A B C : Type 0} (f : A → B) (g : B → C) (o : Option A) (d : C) 
 or_of f g None d v e = absurd (cc)
 or_of f g (Some u) d v e = let h : f u ≡ v = cc in ap g h
 
-module _ (d : Document) (nodes : List Node) (p : ℕ) (node : Node) (l : IsLinked d nodes) (h : p < length nodes) (dh : node.depth ≡ depth (place_of d p) + 1) (sh : node.depth ≤ depth_limit) (ch : node.children ≡ []) (ph : node.parent ≡ p) (po : node.position ≡ children_at d.tree (place_of d p)) where
+module _ (d : Document) (nodes : List Node) (p : ℕ) (node : Node) (l : IsLinked d nodes) (h : p < length nodes) (dh : node.depth ≡ depth (place_of d p) + 1) (sh : node.depth ≤ depth_limit) (ch : node.children ≡ []) (ph : node.parent ≡ p) (po : node.position ≡ children_at d.tree (place_of d p)) (nm : IsTrue (is_node_name node.name)) (pm : IsTrue (have_names node.properties)) where
   abbrev d' : Document
   d' = with_node d (place_of d p) node.name node.properties
 
@@ -210,6 +210,13 @@ module _ (d : Document) (nodes : List Node) (p : ℕ) (node : Node) (l : IsLinke
   node_of i n (newest q f) =
       subst (λ (z : Node). IsNodeOf d' i z) (sym f) (subst (λ (z : ℕ). IsNodeOf d' z node) (sym q) new_node)
 
+  named_of : (i : ℕ) (n : Node) → Was nodes p (length nodes) node i n → HasNames i n
+  named_of i n (kept a ne e) = l.named i n e
+  named_of i n (above m a q e f) =
+      subst (λ (z : Node). HasNames i z) (sym f) (let w = l.named i m e in record { name = w.name; properties = w.properties })
+  named_of i n (newest q f) =
+      subst (λ (z : Node). HasNames i z) (sym f) (record { name = λ ne. nm; properties = pm })
+
   longer : length (linked nodes p node) ≡ suc (length nodes)
   longer = length-last (with_child_number nodes p (length nodes)) node ∙ ap suc (length-with_child_number nodes p (length nodes))
 
@@ -220,6 +227,7 @@ module _ (d : Document) (nodes : List Node) (p : ℕ) (node : Node) (l : IsLinke
     unnamed = name-edit (add_child node.name node.properties) (λ t. refl) d.tree (place_of d p) ∙ l.unnamed;
     numbered = grown_places ∙ (ap suc l.numbered ∙ sym longer);
     nodes_of = λ i n e. node_of i n (was nodes p (length nodes) node i n e);
+    named = λ i n e. named_of i n (was nodes p (length nodes) node i n e);
     distinct = λ i j a b e. apart i j (omega (arith, longer)) (omega (arith, longer)) e (cases_eq i (length nodes)) (cases_eq j (length nodes));
   }
 
@@ -243,9 +251,9 @@ children_of_node d i n f =
     let s = some_of summary (node_at d i) _ f.says in children_at-there d.tree s.0 (place_of d i) s.1 ∙ ap (λ z. z.1.1) s.2
 
 -- What the code holds after a node was linked in.
-pub after_link : (v : Document) (nodes items : List Node) (p j : ℕ) (n node : Node) → IsLinked (document nodes) nodes → document nodes ≡ v → p ≡ j → j < length v.places → n ≡ get_or nodes p n → items ≡ linked nodes p node → node.parent ≡ p → node.depth ≡ n.depth + 1 → n.depth ≢ 32 → node.children ≡ [] → node.position ≡ length n.children → IsLinked (document items) items × (document items ≡ with_node v (place_of v j) node.name node.properties)
-after_link v nodes items p j n node l e q h g a b dh sh ch po =
-    let w : p < length nodes = omega (arith, l.numbered, q, h, ap (λ (z : Document). length z.places) e) in let f = l.nodes_of p n (read-there nodes p n w g) in let d : document (linked nodes p node) ≡ with_node (document nodes) (place_of (document nodes) p) node.name node.properties = document-linked nodes p node l.some ∙ ap (λ z. with_node (document nodes) (place_of (document nodes) z) node.name node.properties) b in let m = IsLinked-linked (document nodes) nodes p node l w (dh ∙ ap (λ z. z + 1) f.depth_of_node) (omega (arith, f.shallow)) ch b (po ∙ sym (children_of_node (document nodes) p n f)) in (subst (λ (z : List Node). IsLinked (document z) z) (sym a) (subst (λ (z : Document). IsLinked z (linked nodes p node)) (sym d) m), ap document a ∙ (d ∙ (ap (λ (z : Document). with_node z (place_of z p) node.name node.properties) e ∙ ap (λ z. with_node v (place_of v z) node.name node.properties) q)))
+pub after_link : (v : Document) (nodes items : List Node) (p j : ℕ) (n node : Node) → IsLinked (document nodes) nodes → document nodes ≡ v → p ≡ j → j < length v.places → n ≡ get_or nodes p n → items ≡ linked nodes p node → node.parent ≡ p → node.depth ≡ n.depth + 1 → n.depth ≢ 32 → node.children ≡ [] → node.position ≡ length n.children → IsTrue (is_node_name node.name) → IsTrue (have_names node.properties) → IsLinked (document items) items × (document items ≡ with_node v (place_of v j) node.name node.properties)
+after_link v nodes items p j n node l e q h g a b dh sh ch po nm pm =
+    let w : p < length nodes = omega (arith, l.numbered, q, h, ap (λ (z : Document). length z.places) e) in let f = l.nodes_of p n (read-there nodes p n w g) in let d : document (linked nodes p node) ≡ with_node (document nodes) (place_of (document nodes) p) node.name node.properties = document-linked nodes p node l.some ∙ ap (λ z. with_node (document nodes) (place_of (document nodes) z) node.name node.properties) b in let m = IsLinked-linked (document nodes) nodes p node l w (dh ∙ ap (λ z. z + 1) f.depth_of_node) (omega (arith, f.shallow)) ch b (po ∙ sym (children_of_node (document nodes) p n f)) nm pm in (subst (λ (z : List Node). IsLinked (document z) z) (sym a) (subst (λ (z : Document). IsLinked z (linked nodes p node)) (sym d) m), ap document a ∙ (d ∙ (ap (λ (z : Document). with_node z (place_of z p) node.name node.properties) e ∙ ap (λ z. with_node v (place_of v z) node.name node.properties) q)))
 
 pub child_of : (v doc : Document) (j : ℕ) (name held : Bytes) (ps : List Property) → depth (place_of v j) ≢ 32 → doc ≡ with_node v (place_of v j) held ps → held ≡ name → ps ≡ [] → with_child_of v j name ≡ Ok doc
 child_of v doc j name held ps ne e q r =
@@ -260,11 +268,53 @@ pub root_name : (d v : Document) (nodes : List Node) → IsLinked d nodes → d 
 root_name d v nodes l e =
     subst (λ (z : Document). name_of z 0 ≡ []) e (ap (λ p. option_map_or (λ n. n.name) (at d.tree p) []) l.root ∙ l.unnamed)
 
+-- Whatever stands below a node of the code is a node of the code.
+child_below : (d : Document) (nodes : List Node) → IsLinked d nodes → (n k : ℕ) (p : Place) (u : Tree) → n < length nodes → at d.tree (place_of d n ++ k ∷ p) ≡ Some u → (c : ℕ) × (c < length nodes) × (place_of d c ≡ place_of d n ++ k ∷ [])
+child_below d nodes l n k p u h e =
+    let i = there nodes n h in
+    let f = l.nodes_of n i.0 i.1 in
+    let s = some_of summary (node_at d n) _ f.says in
+    let inner : at_in s.0.children k p ≡ Some u = sym (at-below d.tree (place_of d n) (k ∷ p) s.0 s.1) ∙ e in
+    let few : count s.0.children ≡ length i.0.children = ap (λ z. z.1.1) s.2 in
+    let c = there i.0.children k (omega (arith, few, at_in-within s.0.children k p u inner)) in
+    let stands = f.children k c.0 c.1 in
+    (c.0, omega (arith, l.numbered, stands.0), stands.1)
+
+node_below : (d : Document) (nodes : List Node) → IsLinked d nodes → (p : Place) (k n : ℕ) (u : Tree) → n < length nodes → at d.tree (place_of d n ++ k ∷ p) ≡ Some u → (m : ℕ) × (m < length d.places) × (place_of d m ≡ place_of d n ++ k ∷ p)
+node_below d nodes l [] k n u h e =
+    let c = child_below d nodes l n k [] u h e in (c.0, omega (arith, l.numbered, c.1), c.2)
+node_below d nodes l (j ∷ p) k n u h e =
+    let c = child_below d nodes l n k (j ∷ p) u h e in
+    let place : place_of d c.0 ++ j ∷ p ≡ place_of d n ++ k ∷ (j ∷ p) = ap (λ (q : Place). q ++ j ∷ p) c.2 ∙ append_assoc (place_of d n) (k ∷ []) (j ∷ p) in
+    let m = node_below d nodes l p j c.0 u c.1 (ap (at d.tree) place ∙ e) in
+    (m.0, m.1, m.2 ∙ place)
+
+-- Every place of the tree has its number.
+placed : (d : Document) (nodes : List Node) → IsLinked d nodes → (p : Place) (u : Tree) → at d.tree p ≡ Some u → (m : ℕ) × (m < length d.places) × (place_of d m ≡ p)
+placed d nodes l [] u e = (0, omega (arith, l.some, l.numbered), l.root)
+placed d nodes l (k ∷ p) u e =
+    let m = node_below d nodes l p k 0 u l.some (ap (λ (q : Place). at d.tree (q ++ k ∷ p)) l.root ∙ e) in
+    (m.0, m.1, m.2 ∙ ap (λ (q : Place). q ++ k ∷ p) l.root)
+
+some-by : (o : Option Tree) → IsSome o → (u : Tree) × (o ≡ Some u)
+some-by None h = absurd (cc)
+some-by (Some u) h = (u, refl)
+
 pub numbers : (d v : Document) (nodes : List Node) → IsLinked d nodes → d ≡ v → IsNumbering v
 numbers d v nodes l e =
     subst IsNumbering e (record {
       stand = λ i h. let s = stands d nodes l i (omega (arith, l.numbered, h)) in subst (λ (o : Option Tree). IsSome o) (sym s.1) refl;
       differ = λ i j a b g. l.distinct i j (omega (arith, l.numbered, a)) (omega (arith, l.numbered, b)) g;
+      each = λ p h. let u = some-by (at d.tree p) h in placed d nodes l p u.0 u.1;
+    })
+
+-- Names and depths of the nodes are as they may be.
+pub names : (d v : Document) (nodes : List Node) → IsLinked d nodes → d ≡ v → IsNamed v
+names d v nodes l e =
+    subst IsNamed e (record {
+      nodes = λ i h ne. let n = there nodes i (omega (arith, l.numbered, h)) in subst (λ (z : Bytes). IsTrue (is_node_name z)) (sym (or_of summary (λ z. z.0) _ _ _ (l.nodes_of i n.0 n.1).says)) ((l.named i n.0 n.1).name (λ z. ne (ap (place_of d) z ∙ l.root)));
+      properties = λ i h. let n = there nodes i (omega (arith, l.numbered, h)) in subst (λ (z : List Property). IsTrue (have_names z)) (sym (or_of summary (λ z. z.1.0) _ _ _ (l.nodes_of i n.0 n.1).says)) (l.named i n.0 n.1).properties;
+      shallow = λ i h. let n = there nodes i (omega (arith, l.numbered, h)) in omega (arith, (l.nodes_of i n.0 n.1).depth_of_node, (l.nodes_of i n.0 n.1).shallow);
     })
 
 there_is : (d : Document) (p : Place) (o : Option Tree) → at d.tree p ≡ o → IsSome o → Some p ≡ if_there d p

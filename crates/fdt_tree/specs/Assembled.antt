@@ -1,9 +1,9 @@
 -- A tree held as a list of nodes, each with the number of its parent, is what adding them one by one gives.
-use Rattle.std.specs.Prelude.{◌≡◌, ℕ, zero, suc, ◌+◌, ◌<◌, ◌≢◌, ◌≤◌, slice_get, option_map, Some, List, [], ◌∷◌, ◌++◌, fold, map, length, refl}
+use Rattle.std.specs.Prelude.{◌≡◌, IsTrue, ℕ, zero, suc, ◌+◌, ◌<◌, ◌≢◌, ◌≤◌, slice_get, option_map, Some, List, [], ◌∷◌, ◌++◌, fold, map, length, refl}
 use Rattle.std.specs.Coded.{Coded, code_by, coded_list, coded×, coded_ℕ}
-use Rattle.fdt_tree.specs.Tree.{Bytes, Property, Tree, Place, count, depth, depth_limit}
+use Rattle.fdt_tree.specs.Tree.{Bytes, Property, Tree, Place, count, depth, depth_limit, is_node_name}
 use Rattle.fdt_tree.specs.Code.{coded_tree}
-use Rattle.fdt_tree.specs.Document.{Document, empty, place_of, node_at, with_node, with_properties}
+use Rattle.fdt_tree.specs.Document.{Document, empty, place_of, node_at, with_node, with_properties, have_names}
 use Rattle.fdt_tree.specs.declared.node.Node.{Node}
 
 -- A document, coded by its two parts.
@@ -56,6 +56,11 @@ pub record IsNodeOf (doc : Document) (number : ℕ) (node : Node) : Type 0 where
   pub ascending : (index child next : ℕ) → slice_get node.children index ≡ Some child → slice_get node.children (index + 1) ≡ Some next → child < next
   pub children : (index child : ℕ) → slice_get node.children index ≡ Some child → (child < length doc.places) × (place_of doc child ≡ place_of doc number ++ index ∷ [])
 
+-- A node of the code has a name that it may have, unless it is the root, and so has each of its properties.
+pub record HasNames (number : ℕ) (node : Node) : Type 0 where
+  pub name : number ≢ 0 → IsTrue (is_node_name node.name)
+  pub properties : IsTrue (have_names node.properties)
+
 -- The nodes of the code are the nodes of the document, one for one.
 pub record IsLinked (doc : Document) (nodes : List Node) : Type 0 where
   pub some : 0 < length nodes
@@ -63,6 +68,7 @@ pub record IsLinked (doc : Document) (nodes : List Node) : Type 0 where
   pub unnamed : doc.tree.name ≡ []
   pub numbered : length doc.places ≡ length nodes
   pub nodes_of : (number : ℕ) (node : Node) → slice_get nodes number ≡ Some node → IsNodeOf doc number node
+  pub named : (number : ℕ) (node : Node) → slice_get nodes number ≡ Some node → HasNames number node
   pub distinct : (one other : ℕ) → one < length nodes → other < length nodes → place_of doc one ≡ place_of doc other → one ≡ other
 
 -- The nodes, where one has one more child, a number.

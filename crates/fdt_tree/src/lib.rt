@@ -10,11 +10,12 @@ mod phandle_map;
 mod pieces;
 mod properties;
 mod reserve;
+mod settings;
 #[cfg(test)]
 mod tests;
 mod tree;
 mod values;
-mod visits;
+mod walk;
 
 pub use cell_counts::{BadCells, cells};
 pub use edit_fault::EditFault;
@@ -23,3 +24,4 @@ pub use phandle_map::{PhandleFault, PhandleMap, highest_phandle, phandles};
 pub use reserve::Reserve;
 pub use tree::Tree;
 pub use values::{BadLength, has_string, u32_of, u64_of};
+pub use walk::{Visit, Walk};

@@ -2,13 +2,16 @@
 ghost use Rattle.std.specs.Prelude.{◌≡◌, ◌<◌, ◌+◌, ◌⊎◌, ◌==◌, [], ◌++◌, ◌∷◌, length, OnOk, OnErr, IfOk, IfErr, IsTrue, option_map, option_and_then, IfSome, slice_get};
 ghost use Rattle.std.specs.List.{slice_split};
 ghost use Rattle.fdt_tree.specs.Tree.{descend, find_place, is_node_name, is_property_name, property_of};
-ghost use Rattle.fdt_tree.specs.Document.{empty, place_of, name_of, properties_of, IsNumbering, children_of, if_there, next_place, parent_place, with_child_of, with_property};
+ghost use Rattle.fdt_tree.specs.Whole.{IsKept};
+ghost use Rattle.fdt_tree.specs.Document.{empty, place_of, name_of, properties_of, IsNumbering, IsNamed, children_of, if_there, next_place, parent_place, with_child_of, with_properties, with_property};
+ghost use Rattle.fdt_tree.specs.PathEdits.{mknod, set, set_property, with_child_at};
 
 use crate::edit_fault::EditFault;
 use crate::node::{Node, link};
 use crate::node_id::NodeId;
 use crate::pieces::cut;
 use crate::properties::value_of;
+use crate::settings::put_property;
 use dl_base::Bytes;
 use sqlite_items::Items;
 use std::alloc::{AllocError, Global};
@@ -72,6 +75,20 @@ impl Tree {
         let _ = &self.nodes;
     }
 
+    /// Every node and every property has a name that it may have, and no node stands deeper than 32.
+    pub fn names(&self)
+        ensures { IsNamed self.now }
+    {
+        let _ = &self.nodes;
+    }
+
+    /// The whole tree is one that may stand in memory: an unnamed root, names that may be, and a depth of at most 32.
+    pub fn kept(&self)
+        ensures { IsKept self.now.tree }
+    {
+        let _ = &self.nodes;
+    }
+
     /// Adds a last child with no property and no child, whatever the names beside it. `Deep` where the parent's depth
     /// is 32. After a refusal the tree is as it was.
     pub fn add_node(&mut self, parent: NodeId, name: &[u8]) -> Result<NodeId, EditFault>
@@ -125,6 +142,62 @@ impl Tree {
         value.append(bytes)?;
         let holder = &mut self.nodes[node.number];
         holder.properties.push((held_name, value))
+    }
+
+    /// Adds a last child with no property and no child to the node that a path finds: `NoNode` exactly where it finds
+    /// none, else `Exists` exactly where that node has a child of this name, else `Deep` exactly where its depth is 32. After
+    /// a refusal the tree is as it was.
+    pub fn mknod(&mut self, path: &[u8], name: &[u8]) -> Result<NodeId, EditFault>
+        requires node_name { IsTrue (is_node_name name.now) }
+        ensures tree { OnOk result (mknod self.old.tree path.now name.now ≡ Ok self.new.tree) }
+        ensures ok { OnOk result (with_child_at self.old path.now name.now ≡ Ok self.new) }
+        ensures newest { IfOk result (λ node. node ≡ length self.old.places) }
+        ensures longer { OnOk result (length self.new.places ≡ length self.old.places + 1) }
+        ensures refused { IfErr result (λ e. (e ≡ EditFault.Memory) ⊎ (mknod self.old.tree path.now name.now ≡ Err e)) }
+        ensures same { OnErr result (self.new ≡ self.old) }
+    {
+        let Some(parent) = self.find(path) else {
+            return Err(EditFault::NoNode);
+        };
+        if self.child_named(parent, name).is_some() {
+            return Err(EditFault::Exists);
+        }
+        self.add_node(parent, name)
+    }
+
+    /// Replaces the bytes of the first property of this name in its place, or adds a last property, of the node that a path
+    /// finds: `NoNode` exactly where it finds none. After a refusal the tree is as it was.
+    pub fn set(&mut self, path: &[u8], prop: &[u8], bytes: &[u8]) -> Result<(), EditFault>
+        requires property_name { IsTrue (is_property_name prop.now) }
+        ensures tree { OnOk result (set self.old.tree path.now prop.now bytes.now ≡ Ok self.new.tree) }
+        ensures places { self.new.places ≡ self.old.places }
+        ensures refused { IfErr result (λ e. (e ≡ EditFault.Memory) ⊎ (set self.old.tree path.now prop.now bytes.now ≡ Err e)) }
+        ensures same { OnErr result (self.new ≡ self.old) }
+    {
+        let Some(node) = self.find(path) else {
+            return Err(EditFault::NoNode);
+        };
+        match self.set_prop(node, prop, bytes) {
+            Ok(()) => Ok(()),
+            Err(_) => Err(EditFault::Memory),
+        }
+    }
+
+    /// Replaces the bytes of the first property of this name, or adds a last property.
+    fn set_prop(&mut self, node: NodeId, name: &[u8], bytes: &[u8]) -> Result<(), AllocError>
+        requires live { node < length self.old.places }
+        requires property_name { IsTrue (is_property_name name.now) }
+        ensures ok { OnOk result (self.new ≡ with_properties self.old (place_of self.old node) (set_property name.now bytes.now)) }
+        ensures places { self.new.places ≡ self.old.places }
+        ensures err { OnErr result (self.new ≡ self.old) }
+    {
+        let alloc = *self.nodes.allocator();
+        let mut held_name = Bytes::new(alloc);
+        held_name.append(name)?;
+        let mut value = Bytes::new(alloc);
+        value.append(bytes)?;
+        let holder = &mut self.nodes[node.number];
+        put_property(&mut holder.properties, held_name, value)
     }
 
     /// The name of a node.

@@ -7,7 +7,8 @@ use Rattle.fdt_read.specs.declared.fault.FdtFault.{FdtFault}
 use Rattle.fdt_read.specs.declared.fault.FdtFault.TheVariants.{Bounds}
 use Rattle.fdt_read.specs.Header.{magic, total_size, structure_offset, structure_size, structure_end, strings_offset, strings_size, strings_end, strings_block, reservations_offset, version, last_compatible_version, boot_processor}
 use Rattle.fdt_read.specs.Reservations.{reservations_block, reservations_end}
-use Rattle.fdt_read.specs.Refusals.{first_row, layout_rows, is_reservations_fault, header_fault}
+use Rattle.dl_base.specs.Rows.{first_that_applies}
+use Rattle.fdt_read.specs.Refusals.{layout_rows, is_reservations_fault, header_fault}
 use Rattle.fdt_write.specs.Blocks.{word_bytes}
 use Rattle.fdt_write.specs.Flattened.{header_words}
 use Rattle.fdt_write.proofs.Words.{word-row, length-row}
@@ -17,9 +18,9 @@ abbrev IsClear : List (Bool × FdtFault) → Type 0
 IsClear [] = Unit {0}
 IsClear (row ∷ rows) = (row.0 ≡ false) × IsClear rows
 
-first_row-clear : (rows : List (Bool × FdtFault)) → IsClear rows → first_row rows ≡ None
+first_row-clear : (rows : List (Bool × FdtFault)) → IsClear rows → first_that_applies rows ≡ None
 first_row-clear [] clear = refl
-first_row-clear (row ∷ rows) clear = cond-false row.0 (Some row.1) (first_row rows) clear.0 ∙ first_row-clear rows clear.1
+first_row-clear (row ∷ rows) clear = cond-false row.0 (Some row.1) (first_that_applies rows) clear.0 ∙ first_row-clear rows clear.1
 
 not-is : (a b : ℕ) → a ≡ b → not (eqb a b) ≡ false
 not-is a b e = not_from_true (eqb a b) (eq-eqb a b e)

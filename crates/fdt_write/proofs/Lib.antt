@@ -7,8 +7,7 @@ pub mod Spelled
 pub mod HeaderRead
 pub mod ReadBack
 mod Instances
-pub mod LeftLemmas
-pub mod Walking
+pub mod TokenLemmas
 pub mod NamesLemmas
 pub mod UsedLemmas
 pub mod SizeLemmas

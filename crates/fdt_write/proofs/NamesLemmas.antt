@@ -1,15 +1,15 @@
 -- Names that are added, and their offsets.
-use Rattle.std.proofs.Common.{◌≡◌, ℕ, ◌+◌, Bool, true, false, cond, ◌||◌, List, [], ◌∷◌, ◌++◌, Option, Some, None, length, map, Bor, refl, sym, ap, ◌∙◌, arith, length-append}
-use Rattle.std.specs.Map.{lookup}
+use Rattle.std.proofs.Common.{◌≡◌, ℕ, ◌+◌, Bool, true, false, cond, ◌||◌, List, [], ◌∷◌, ◌++◌, Option, Some, None, length, map, Bor, refl, sym, ap, ◌∙◌, subst, arith, length-append}
+use Rattle.std.specs.BTreeMap.{BTreeMap, get, Updates}
 use Rattle.std.specs.Str.{bytes_eq}
 use Rattle.std.specs.Option.{is_some}
-use Rattle.indexmap.specs.IndexMap.{insert_entry}
 use Rattle.std.proofs.lemmas.Bool.{false≢true, or_parts, cond-false}
 use Rattle.std.proofs.lemmas.List.{append-nil, map-append}
+use Rattle.std.proofs.lemmas.Map.Text.{is_eq-slice_cmp}
 use Rattle.std.proofs.lemmas.Slice.Eq.{bytes_eq-Decides}
 use Rattle.fdt_tree.specs.Tree.{Bytes}
 use Rattle.fdt_write.specs.Strings.{is_among, firsts, offset_in, ended, strings_of}
-use Rattle.fdt_write.specs.Names.{saturated, offsets_from, names_in_entries, with_name, offset_of}
+use Rattle.fdt_write.specs.Names.{saturated, texts, with_name, offset_of, name_cmp, IsIndex}
 
 same_Bool : (a b : Bool) → (a ≡ true → b ≡ true) → (b ≡ true → a ≡ true) → a ≡ b
 same_Bool true true f g = refl
@@ -22,21 +22,40 @@ bytes_eq-swap : (a b : Bytes) → bytes_eq a b ≡ bytes_eq b a
 bytes_eq-swap a b =
     same_Bool (bytes_eq a b) (bytes_eq b a) (λ e. (bytes_eq-Decides b a).1 (sym ((bytes_eq-Decides a b).0 e))) (λ e. (bytes_eq-Decides a b).1 (sym ((bytes_eq-Decides b a).0 e)))
 
--- A look-up among entries gives the offset.
-lookup-from : (entries : List (Bor (List ℕ) × ℕ)) (offset : ℕ) (name : Bytes) → map (λ e. e.1) entries ≡ offsets_from offset (names_in_entries entries) → lookup (λ (k : Bor (List ℕ)). bytes_eq name k.now) entries ≡ cond (is_among (names_in_entries entries) name) (Some (saturated (offset + offset_in (names_in_entries entries) name))) None
-lookup-from [] offset name e = refl
-lookup-from (entry ∷ rest) offset name e =
-    let first : entry.1 ≡ saturated offset = cc in
-    let others : map (λ e. e.1) rest ≡ offsets_from (offset + (length entry.0.now + 1)) (names_in_entries rest) = cc in
-    let names : List Bytes = names_in_entries rest in
-    ap (λ b. cond b (Some entry.1) (lookup (λ (k : Bor (List ℕ)). bytes_eq name k.now) rest)) (bytes_eq-swap name entry.0.now) ∙ (elim (bytes_eq entry.0.now name) as (λ b. cond b (Some entry.1) (lookup (λ (k : Bor (List ℕ)). bytes_eq name k.now) rest) ≡ cond (b || is_among names name) (Some (saturated (offset + cond b 0 (length entry.0.now + 1 + offset_in names name)))) None) [
-      | true ↦ ap Some (first ∙ ap saturated (let h : offset ≡ offset + 0 = omega arith in h))
-      | false ↦ lookup-from rest (offset + (length entry.0.now + 1)) name others ∙ ap (λ n. cond (is_among names name) (Some (saturated n)) None) (let h : offset + (length entry.0.now + 1) + offset_in names name ≡ offset + (length entry.0.now + 1 + offset_in names name) = omega arith in h)
-    ])
+-- The offset of a name after so many bytes, if it is among these.
+abbrev offset_after : ℕ → List Bytes → Bytes → Option ℕ
+offset_after start names name = cond (is_among names name) (Some (saturated (start + offset_in names name))) None
 
-pub lookup-offset : (entries : List (Bor (List ℕ) × ℕ)) (name : Bytes) → map (λ e. e.1) entries ≡ offsets_from 0 (names_in_entries entries) → lookup (λ (k : Bor (List ℕ)). bytes_eq name k.now) entries ≡ offset_of (names_in_entries entries) name
-lookup-offset entries name e =
-    lookup-from entries 0 name e ∙ ap (λ n. cond (is_among (names_in_entries entries) name) (Some (saturated n)) None) (let h : 0 + offset_in (names_in_entries entries) name ≡ offset_in (names_in_entries entries) name = omega arith in h)
+offset_after-last : (names : List Bytes) (start : ℕ) (name q : Bytes) → is_among names name ≡ false → offset_after start (names ++ name ∷ []) q ≡ cond (bytes_eq name q) (Some (saturated (start + length (strings_of names)))) (offset_after start names q)
+offset_after-last [] start name q absent =
+    elim (bytes_eq name q) as (λ b. cond (b || false) (Some (saturated (start + cond b 0 (length name + 1 + 0)))) None ≡ cond b (Some (saturated (start + 0))) None) [ true ↦ refl | false ↦ refl ]
+offset_after-last (first ∷ rest) start name q absent =
+    let parts = or_parts (bytes_eq first name) (is_among rest name) absent in
+    let onward : ℕ = start + (length first + 1) in
+    let more : List Bytes = rest ++ name ∷ [] in
+    let block : onward + length (strings_of rest) ≡ start + length (strings_of (first ∷ rest)) = omega (arith, length-append (ended first) (strings_of rest), length-append first (0 ∷ [])) in
+    let shift : (names : List Bytes) → start + (length first + 1 + offset_in names q) ≡ onward + offset_in names q = λ names. omega arith in
+    elim (bytes_eq first q) as (λ b. bytes_eq first q ≡ b → cond (b || is_among more q) (Some (saturated (start + cond b 0 (length first + 1 + offset_in more q)))) None ≡ cond (bytes_eq name q) (Some (saturated (start + length (strings_of (first ∷ rest))))) (cond (b || is_among rest q) (Some (saturated (start + cond b 0 (length first + 1 + offset_in rest q)))) None)) [
+      | true ↦ λ same. let other : bytes_eq name q ≡ false = ap (bytes_eq name) (sym ((bytes_eq-Decides first q).0 same)) ∙ (bytes_eq-swap name first ∙ parts.0) in
+      sym (cond-false (bytes_eq name q) (Some (saturated (start + length (strings_of (first ∷ rest))))) (Some (saturated (start + 0))) other)
+      | false ↦ λ other. ap (λ n. cond (is_among more q) (Some (saturated n)) None) (shift more) ∙ (offset_after-last rest onward name q parts.1 ∙ (ap (λ n. cond (bytes_eq name q) (Some (saturated n)) (offset_after onward rest q)) block ∙ ap (λ n. cond (bytes_eq name q) (Some (saturated (start + length (strings_of (first ∷ rest))))) (cond (is_among rest q) (Some (saturated n)) None)) (sym (shift rest))))
+    ] refl
+
+from-none : (names : List Bytes) (q : Bytes) → offset_after 0 names q ≡ offset_of names q
+from-none names q =
+    let start : 0 + offset_in names q ≡ offset_in names q = omega arith in
+    ap (λ n. cond (is_among names q) (Some (saturated n)) None) start
+
+-- A new last name begins where the others end.
+offset_of-last : (names : List Bytes) (name q : Bytes) → is_among names name ≡ false → offset_of (names ++ name ∷ []) q ≡ cond (bytes_eq name q) (Some (saturated (length (strings_of names)))) (offset_of names q)
+offset_of-last names name q absent =
+    let start : 0 + length (strings_of names) ≡ length (strings_of names) = omega arith in
+    sym (from-none (names ++ name ∷ []) q) ∙ (offset_after-last names 0 name q absent ∙ (ap (λ n. cond (bytes_eq name q) (Some (saturated n)) (offset_after 0 names q)) start ∙ ap (λ o. cond (bytes_eq name q) (Some (saturated (length (strings_of names)))) o) (from-none names q)))
+
+-- The index with a new last name.
+indexed-more : (old new : BTreeMap (Bor (List ℕ)) ℕ) (names : List Bytes) (name : Bor (List ℕ)) (size : ℕ) → IsIndex old names → Updates name_cmp old new name (Some size) → is_among names name.now ≡ false → size ≡ saturated (length (strings_of names)) → IsIndex new (names ++ name.now ∷ [])
+indexed-more old new names name size indexed updates absent sized =
+    λ q. updates.0 q ∙ (ap (λ b. cond b (Some size) (get name_cmp old q)) (is_eq-slice_cmp name.now q.now) ∙ (ap (λ o. cond (bytes_eq name.now q.now) (Some size) o) (indexed q) ∙ (ap (λ n. cond (bytes_eq name.now q.now) (Some n) (offset_of names q.now)) sized ∙ sym (offset_of-last names name.now q.now absent))))
 
 -- One name more takes its length and one byte.
 pub length-strings_push : (names : List Bytes) (name : Bytes) → length (strings_of (names ++ name ∷ [])) ≡ length (strings_of names) + (length name + 1)
@@ -44,14 +63,6 @@ length-strings_push [] name =
     omega (arith, length-append (ended name) [], length-append name (0 ∷ []))
 length-strings_push (first ∷ rest) name =
     omega (arith, length-append (ended first) (strings_of (rest ++ name ∷ [])), length-append (ended first) (strings_of rest), length-strings_push rest name)
-
--- The offset of a last name is the length of those before it.
-pub offsets_from-push : (names : List Bytes) (offset : ℕ) (name : Bytes) → offsets_from offset (names ++ name ∷ []) ≡ offsets_from offset names ++ saturated (offset + length (strings_of names)) ∷ []
-offsets_from-push [] offset name =
-    ap (λ n. saturated n ∷ []) (let h : offset ≡ offset + 0 = omega arith in h)
-offsets_from-push (first ∷ rest) offset name =
-    let sum : offset + (length first + 1) + length (strings_of rest) ≡ offset + length (strings_of (first ∷ rest)) = omega (arith, length-append (ended first) (strings_of rest), length-append first (0 ∷ [])) in
-    ap (λ ns. saturated offset ∷ ns) (offsets_from-push rest (offset + (length first + 1)) name ∙ ap (λ n. offsets_from (offset + (length first + 1)) rest ++ saturated n ∷ []) sum)
 
 or-shuffle : (a b c : Bool) → ((a || b) || c) ≡ (b || (a || c))
 or-shuffle true true c = refl
@@ -73,21 +84,11 @@ pub firsts-push : (names : List Bytes) (name : Bytes) → firsts [] (names ++ na
 firsts-push names name =
     firsts-more [] names name ∙ (elim (is_among (firsts [] names) name) as (λ b. firsts [] names ++ cond b [] (name ∷ []) ≡ cond b (firsts [] names) (firsts [] names ++ name ∷ [])) [ true ↦ append-nil (firsts [] names) | false ↦ refl ])
 
--- Keys are equal where their texts are.
-abbrev same_text : Bor (List ℕ) → Bor (List ℕ) → Bool
-same_text x y = bytes_eq x.now y.now
-
-insert_entry-absent : (entries : List (Bor (List ℕ) × ℕ)) (name : Bor (List ℕ)) (offset : ℕ) → is_among (names_in_entries entries) name.now ≡ false → insert_entry same_text entries name offset ≡ entries ++ (name, offset) ∷ []
-insert_entry-absent [] name offset absent = refl
-insert_entry-absent (entry ∷ rest) name offset absent =
-    let parts = or_parts (bytes_eq entry.0.now name.now) (is_among (names_in_entries rest) name.now) absent in
-    cond-false (bytes_eq name.now entry.0.now) ((entry.0, offset) ∷ rest) (entry ∷ insert_entry same_text rest name offset) (bytes_eq-swap name.now entry.0.now ∙ parts.0) ∙ ap (λ (es : List (Bor (List ℕ) × ℕ)). entry ∷ es) (insert_entry-absent rest name offset parts.1)
-
--- The entries with one more, which was not there.
-pub record IsAdded (before after : List (Bor (List ℕ) × ℕ)) (name : Bytes) (total : ℕ) : Type 0 where
-  pub placed : map (λ e. e.1) after ≡ offsets_from 0 (names_in_entries after)
-  pub sized : total ≡ saturated (length (strings_of (names_in_entries after)))
-  pub names : names_in_entries after ≡ with_name (names_in_entries before) name
+-- The names with one more, which was not there.
+pub record IsAdded (before after : List (Bor (List ℕ))) (index : BTreeMap (Bor (List ℕ)) ℕ) (name : Bytes) (total : ℕ) : Type 0 where
+  pub indexed : IsIndex index (texts after)
+  pub sized : total ≡ saturated (length (strings_of (texts after)))
+  pub names : texts after ≡ with_name (texts before) name
 
 among-none : (names : List Bytes) (name : Bytes) (result : Option ℕ) → is_some result ≡ false → result ≡ offset_of names name → is_among names name ≡ false
 among-none names name result missing found =
@@ -96,13 +97,12 @@ among-none names name result missing found =
       | false ↦ λ e. refl
     ] found
 
-pub added : (before after : List (Bor (List ℕ) × ℕ)) (name : Bor (List ℕ)) (size longer total : ℕ) (result : Option ℕ) → false ≡ is_some result → result ≡ offset_of (names_in_entries before) name.now → after ≡ insert_entry same_text before name size → map (λ e. e.1) before ≡ offsets_from 0 (names_in_entries before) → size ≡ saturated (length (strings_of (names_in_entries before))) → longer ≡ saturated (size + length name.now) → total ≡ saturated (longer + 1) → IsAdded before after name.now total
-added before after name size longer total result missing found inserted placed sized more most =
-    let absent : is_among (names_in_entries before) name.now ≡ false = among-none (names_in_entries before) name.now result (sym missing) found in
-    let last : after ≡ before ++ (name, size) ∷ [] = inserted ∙ insert_entry-absent before name size absent in
-    let names : names_in_entries after ≡ names_in_entries before ++ name.now ∷ [] = ap names_in_entries last ∙ map-append (λ (e : Bor (List ℕ) × ℕ). e.0.now) before ((name, size) ∷ []) in
+pub added : (before after : List (Bor (List ℕ))) (old new : BTreeMap (Bor (List ℕ)) ℕ) (name : Bor (List ℕ)) (size longer total : ℕ) (result : Option ℕ) → false ≡ is_some result → result ≡ offset_of (texts before) name.now → after ≡ before ++ name ∷ [] → Updates name_cmp old new name (Some size) → IsIndex old (texts before) → size ≡ saturated (length (strings_of (texts before))) → longer ≡ saturated (size + length name.now) → total ≡ saturated (longer + 1) → IsAdded before after new name.now total
+added before after old new name size longer total result missing found last updates indexed sized more most =
+    let absent : is_among (texts before) name.now ≡ false = among-none (texts before) name.now result (sym missing) found in
+    let names : texts after ≡ texts before ++ name.now ∷ [] = ap texts last ∙ map-append (λ (n : Bor (List ℕ)). n.now) before (name ∷ []) in
     record {
-      placed = ap (map (λ (e : Bor (List ℕ) × ℕ). e.1)) last ∙ (map-append (λ (e : Bor (List ℕ) × ℕ). e.1) before ((name, size) ∷ []) ∙ (ap (λ (ns : List ℕ). ns ++ size ∷ []) placed ∙ (ap (λ n. offsets_from 0 (names_in_entries before) ++ n ∷ []) (let h : size ≡ saturated (0 + length (strings_of (names_in_entries before))) = omega arith in h) ∙ (sym (offsets_from-push (names_in_entries before) 0 name.now) ∙ ap (offsets_from 0) (sym names)))));
-      sized = (let h : total ≡ saturated (length (strings_of (names_in_entries before)) + (length name.now + 1)) = omega arith in h) ∙ ap saturated (sym (length-strings_push (names_in_entries before) name.now) ∙ ap (λ (ns : List Bytes). length (strings_of ns)) (sym names));
-      names = names ∙ sym (cond-false (is_among (names_in_entries before) name.now) (names_in_entries before) (names_in_entries before ++ name.now ∷ []) absent);
+      indexed = subst (λ (ns : List Bytes). IsIndex new ns) (sym names) (indexed-more old new (texts before) name size indexed updates absent sized);
+      sized = (let h : total ≡ saturated (length (strings_of (texts before)) + (length name.now + 1)) = omega arith in h) ∙ ap saturated (sym (length-strings_push (texts before) name.now) ∙ ap (λ (ns : List Bytes). length (strings_of ns)) (sym names));
+      names = names ∙ sym (cond-false (is_among (texts before) name.now) (texts before) (texts before ++ name.now ∷ []) absent);
     }

@@ -11,7 +11,8 @@ use Rattle.fdt_read.specs.Spells.{Spells}
 use Rattle.fdt_write.specs.Strings.{strings, offset_in, strings_of}
 use Rattle.fdt_write.specs.Blocks.{token_bytes, structure_bytes, reservation_bytes}
 use Rattle.fdt_write.specs.Flattened.{header_bytes, flattened, length_limit}
-use Rattle.fdt_write.specs.Laws.{AreReserves, IsKept, IsReadBack}
+use Rattle.fdt_tree.specs.Whole.{IsKept}
+use Rattle.fdt_write.specs.Laws.{AreReserves, IsReadBack}
 use Rattle.fdt_write.proofs.Texts.{text-at, offset_in-lt}
 use Rattle.fdt_write.proofs.TokensRead.{HasStrings, AllComeBack, tokens-read, length-tokens}
 use Rattle.fdt_write.proofs.ReservesRead.{pairs-read, ends-at, before_last-at, length-reservations}

@@ -9,7 +9,8 @@ use Rattle.fdt_tree.specs.Tree.{Bytes, Property, Trees, none, tree, Tree, is_nod
 use Rattle.fdt_read.specs.Tokens.{Token, begin_node, end_node, property, nop, end, broken}
 use Rattle.fdt_read.specs.Spelling.{spelled_properties, spelled, spelled_whole, counts, is_name, are_named, are_names}
 use Rattle.fdt_write.specs.Strings.{names_of, names_in, is_among, strings}
-use Rattle.fdt_write.specs.Laws.{have_names, are_kept}
+use Rattle.fdt_tree.specs.Document.{have_names}
+use Rattle.fdt_tree.specs.Whole.{are_kept}
 use Rattle.fdt_write.proofs.Texts.{no_nul}
 use Rattle.fdt_write.proofs.Firsts.{among-all}
 use Rattle.fdt_write.proofs.TokensRead.{AllComeBack, AllComeBack-append}

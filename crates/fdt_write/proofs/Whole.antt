@@ -1,12 +1,11 @@
 -- A whole flattened tree, by its header and its blocks.
-use Rattle.std.proofs.Common.{◌≡◌, ℕ, ◌+◌, ◌*◌, ◌≤◌, List, [], ◌∷◌, ◌++◌, length, map, Bor, refl, sym, ap, ◌∙◌, arith, length-append}
-use Rattle.std.specs.Map.{keys_of}
+use Rattle.std.proofs.Common.{◌≡◌, ℕ, ◌+◌, ◌*◌, ◌≤◌, List, [], ◌++◌, length, refl, sym, ap, ◌∙◌, arith, length-append}
 use Rattle.fdt_tree.specs.Tree.{Bytes, Tree}
 use Rattle.fdt_tree.specs.declared.reserve.Reserve.{Reserve}
 use Rattle.fdt_write.specs.Strings.{strings, strings_of}
 use Rattle.fdt_write.specs.Blocks.{structure_bytes, reservation_bytes}
 use Rattle.fdt_write.specs.Flattened.{header_words, header_bytes, flattened, length_limit}
-use Rattle.fdt_write.specs.Names.{saturated, names_in_entries}
+use Rattle.fdt_write.specs.Names.{saturated}
 use Rattle.fdt_write.proofs.Appending.{two-parts}
 use Rattle.fdt_write.proofs.ReservesRead.{length-reservations}
 use Rattle.fdt_write.proofs.Words.{length-row}
@@ -61,16 +60,3 @@ all-parts reserves boot t names r s n zero one two three four sizes same a b c d
     let first : one ≡ header_bytes boot (length (reservation_bytes reserves)) (length (structure_bytes t)) (length (strings_of (strings t))) = b ∙ (ap (λ (z : Bytes). z ++ header_bytes boot r s n) a ∙ header) in
     let last : four ≡ three ++ strings_of (strings t) = e ∙ ap (λ (ns : List Bytes). three ++ strings_of ns) same in
     two-parts one (reservation_bytes reserves) (structure_bytes t ++ strings_of (strings t)) two four c (two-parts two (structure_bytes t) (strings_of (strings t)) three four d last) ∙ (ap (λ (z : Bytes). z ++ (reservation_bytes reserves ++ (structure_bytes t ++ strings_of (strings t)))) first ∙ sym (flattened-parts reserves boot t))
-
-texts-twice : (yielded : List (Bor (Bor (List ℕ)))) → map (λ (k : Bor (Bor (List ℕ))). k.now.now) yielded ≡ map (λ (k : Bor (List ℕ)). k.now) (map (λ (k : Bor (Bor (List ℕ))). k.now) yielded)
-texts-twice [] = refl
-texts-twice (key ∷ rest) = ap (λ (ts : List Bytes). key.now.now ∷ ts) (texts-twice rest)
-
-texts-keys : (entries : List (Bor (List ℕ) × ℕ)) → map (λ (k : Bor (List ℕ)). k.now) (keys_of entries) ≡ names_in_entries entries
-texts-keys [] = refl
-texts-keys (entry ∷ rest) = ap (λ (ts : List Bytes). entry.0.now ∷ ts) (texts-keys rest)
-
--- The keys are the names.
-pub keys-names : (yielded : List (Bor (Bor (List ℕ)))) (entries : List (Bor (List ℕ) × ℕ)) → map (λ (k : Bor (Bor (List ℕ))). k.now) yielded ≡ keys_of entries → map (λ (k : Bor (Bor (List ℕ))). k.now.now) yielded ≡ names_in_entries entries
-keys-names yielded entries e =
-    texts-twice yielded ∙ (ap (map (λ (k : Bor (List ℕ)). k.now)) e ∙ texts-keys entries)

@@ -1,32 +1,35 @@
--- What is left of the tokens that spell a tree, at a node of it.
-use Rattle.std.specs.Prelude.{ℕ, zero, suc, List, [], ◌∷◌, ◌++◌, drop}
-use Rattle.fdt_tree.specs.Tree.{Trees, none, tree, Tree, Place}
-use Rattle.fdt_tree.specs.Document.{Document, place_of, name_of, properties_of, children_of}
+-- For proofs, private contracts and the model of `TreeTokens` alone: the tokens of a tree that are left.
+use Rattle.std.specs.Prelude.{◌<◌, ⊤, ℕ, List, [], ◌∷◌, ◌++◌, All, drop, flat_map, length}
+use Rattle.fdt_tree.specs.Document.{Document, properties_of}
+use Rattle.fdt_tree.specs.Visits.{Seen, begins, ends, seen, IsLive}
+use Rattle.fdt_tree.specs.declared.walk.Visit.{Visit}
 use Rattle.fdt_read.specs.Tokens.{Token, begin_node, end_node, end}
-use Rattle.fdt_read.specs.Spelling.{spelled_properties, spelled}
+use Rattle.fdt_read.specs.Spelling.{spelled_properties}
 use Rattle.fdt_write.specs.declared.tree_tokens.Step.{Step}
-use Rattle.fdt_write.specs.declared.tree_tokens.Step.TheVariants.{Before, Inside, After, Done}
+use Rattle.fdt_write.specs.declared.tree_tokens.Step.TheVariants.{Between, Inside, Done}
 
--- The tokens after the END_NODE of a node among the trees.
-abbrev pub after_in : Trees → ℕ → Place → List Token
-after_in none k p = []
-after_in (tree name properties children rest) zero [] = spelled rest
-after_in (tree name properties children rest) zero (j ∷ p) = after_in children j p ++ end_node ∷ spelled rest
-after_in (tree name properties children rest) (suc k) p = after_in rest k p
+-- The tokens of what is seen on a walk: a node begins, with its properties, or ends.
+abbrev pub seen_tokens : Seen → List Token
+seen_tokens (begins place name properties) = begin_node name ∷ spelled_properties properties
+seen_tokens ends = end_node ∷ []
 
--- The tokens after the END_NODE of the node at a place.
-abbrev pub after : Tree → Place → List Token
-after t [] = end ∷ []
-after t (k ∷ p) = after_in t.children k p ++ end_node ∷ end ∷ []
+-- The tokens of the visits that are to come, and END.
+abbrev pub tokens_of : Document → List Visit → List Token
+tokens_of d visits = flat_map (λ visit. seen_tokens (seen d visit)) visits ++ end ∷ []
 
--- The tokens from a property of a node on.
-abbrev pub inside : Document → ℕ → ℕ → List Token
-inside d node index =
-    spelled_properties (drop index (properties_of d node)) ++ (spelled (children_of d node) ++ end_node ∷ after d.tree (place_of d node))
+-- The tokens that are left, by the visits that are to come.
+abbrev pub left_at : Document → List Visit → Step → List Token
+left_at d visits Between = tokens_of d visits
+left_at d visits (Inside node index) = spelled_properties (drop index (properties_of d node)) ++ tokens_of d visits
+left_at d visits Done = []
 
--- The tokens that are left, where a walk stands at a node.
-abbrev pub left_at : Document → ℕ → Step → List Token
-left_at d node Before = begin_node (name_of d node) ∷ inside d node 0
-left_at d node (Inside index) = inside d node index
-left_at d node After = after d.tree (place_of d node)
-left_at d node Done = []
+-- The node whose properties come next is live.
+abbrev pub HasLiveNode : Document → Step → Type 0
+HasLiveNode d Between = ⊤
+HasLiveNode d (Inside node index) = node < length d.places
+HasLiveNode d Done = ⊤
+
+-- All nodes that are met are live.
+pub record AreLive (d : Document) (visits : List Visit) (step : Step) : Type 0 where
+  pub coming : All (IsLive d) visits
+  pub here : HasLiveNode d step

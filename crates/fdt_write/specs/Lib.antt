@@ -4,7 +4,6 @@ pub mod Flattened
 pub mod Laws
 pub mod Left
 pub mod Meaning
-pub mod Walk
 pub mod Names
 pub mod Held
 pub mod Used

@@ -1,6 +1,10 @@
--- The names that the writer holds, with their offsets.
-use Rattle.std.specs.Prelude.{ℕ, ◌+◌, ◌-◌, ◌^◌, min, List, [], ◌∷◌, ◌++◌, if◌then◌else◌, Option, Some, None, length, map}
+-- For proofs and private contracts alone: the names that the writer holds, with their offsets.
+use Rattle.std.specs.Prelude.{◌≡◌, ℕ, ◌-◌, ◌^◌, min, List, [], ◌∷◌, ◌++◌, if◌then◌else◌, Option, Some, None, map}
+use Rattle.std.specs.BTreeMap.{BTreeMap, get}
 use Rattle.std.specs.Borrow.{Bor}
+use Rattle.std.specs.Cmp.Lexicographic.{slice_cmp}
+use Rattle.std.specs.Ordering.{nat_cmp}
+use Rattle.std.specs.declared.cmp.Ordering.{Ordering}
 use Rattle.fdt_tree.specs.Tree.{Bytes}
 use Rattle.fdt_write.specs.Strings.{is_among, offset_in}
 
@@ -8,14 +12,9 @@ use Rattle.fdt_write.specs.Strings.{is_among, offset_in}
 abbrev pub saturated : ℕ → ℕ
 saturated length = min length (2 ^ 64 - 1)
 
--- The offsets of names that stand one after another from an offset on, each with a NUL after it.
-abbrev pub offsets_from : ℕ → List Bytes → List ℕ
-offsets_from offset [] = []
-offsets_from offset (name ∷ names) = saturated offset ∷ offsets_from (offset + (length name + 1)) names
-
--- The names of entries.
-abbrev pub names_in_entries : List (Bor (List ℕ) × ℕ) → List Bytes
-names_in_entries entries = map (λ e. e.0.now) entries
+-- The texts of names.
+abbrev pub texts : List (Bor (List ℕ)) → List Bytes
+texts names = map (λ name. name.now) names
 
 -- The names and one more, if it is not among them.
 abbrev pub with_name : List Bytes → Bytes → List Bytes
@@ -24,3 +23,11 @@ with_name names name = if is_among names name then names else names ++ name ∷ 
 -- The offset of a name, if it is among them.
 abbrev pub offset_of : List Bytes → Bytes → Option ℕ
 offset_of names name = if is_among names name then Some (saturated (offset_in names name)) else None
+
+-- The order of names.
+abbrev pub name_cmp : Bor (List ℕ) → Bor (List ℕ) → Ordering
+name_cmp one other = slice_cmp nat_cmp one.now other.now
+
+-- The index gives the offset of each name, where these are the names of the strings block.
+abbrev pub IsIndex : BTreeMap (Bor (List ℕ)) ℕ → List Bytes → Type 0
+IsIndex index names = (name : Bor (List ℕ)) → get name_cmp index name ≡ offset_of names name.now

@@ -1,4 +1,4 @@
--- The names that tokens use.
+-- For proofs and private contracts alone: the names that tokens use.
 use Rattle.std.specs.Prelude.{Bool, true, List, Some}
 use Rattle.fdt_tree.specs.Tree.{Bytes}
 use Rattle.fdt_read.specs.Tokens.{Token, property}

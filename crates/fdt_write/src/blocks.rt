@@ -11,6 +11,7 @@ ghost use Rattle.fdt_write.specs.Used.{is_named};
 
 use crate::names::Names;
 use crate::tree_tokens::{TreeToken, TreeTokens};
+use byteorder::{BigEndian, ByteOrder};
 use fdt_tree::{Reserve, Tree};
 use std::alloc::AllocError;
 
@@ -18,14 +19,18 @@ use std::alloc::AllocError;
 fn push_word(out: &mut Vec<u8>, number: u32) -> Result<(), AllocError>
     ensures { OnOk result (out.new.items ≡ out.old.items ++ word_bytes number) }
 {
-    out.extend_from_slice(&number.to_be_bytes())
+    let mut spelled = [0; 4];
+    BigEndian::write_u32(&mut spelled, number);
+    out.extend_from_slice(&spelled)
 }
 
 /// Writes a number as eight bytes, the most significant first.
 fn push_wide(out: &mut Vec<u8>, number: u64) -> Result<(), AllocError>
     ensures { OnOk result (out.new.items ≡ out.old.items ++ wide_bytes number) }
 {
-    out.extend_from_slice(&number.to_be_bytes())
+    let mut spelled = [0; 8];
+    BigEndian::write_u64(&mut spelled, number);
+    out.extend_from_slice(&spelled)
 }
 
 /// Writes so many zeros, at most three.

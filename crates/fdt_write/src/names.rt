@@ -1,22 +1,23 @@
 // The names of the strings block.
-ghost use Rattle.std.specs.Prelude.{◌≡◌, ◌++◌, [], length, map, IfOk, OnOk, OnErr};
-ghost use Rattle.fdt_write.specs.Names.{names_in_entries, offsets_from, offset_of, saturated, with_name};
+ghost use Rattle.std.specs.Prelude.{◌≡◌, ◌++◌, [], length, flat_map, IfOk, OnOk, OnErr};
+ghost use Rattle.fdt_write.specs.Names.{texts, offset_of, saturated, with_name, IsIndex};
 ghost use Rattle.fdt_write.specs.Strings.{ended, strings, strings_of};
 ghost use Rattle.fdt_write.specs.Used.{with_used};
 
 use crate::tree_tokens::{TreeToken, TreeTokens};
 use fdt_tree::Tree;
-use indexmap::IndexMap;
 use std::alloc::{AllocError, Global};
+use std::collections::BTreeMap;
 
 /// The names of the strings block (5.5), each once, with its offset in bytes. An offset, or the size of all, that is past
-/// 2^64 - 1 stands as 2^64 - 1.
+/// 2^64 - 1 stands as 2^64 - 1. A look-up takes the time of a search in a sorted list, whatever the names are.
 #[derive(Drop)]
 pub(crate) struct Names<'a> {
-    offsets: IndexMap<&'a [u8], u64>,
+    order: Vec<&'a [u8]>,
+    offsets: BTreeMap<&'a [u8], u64>,
     size: u64,
-    ghost placed: { map (λ e. e.1) offsets.entries ≡ offsets_from 0 (names_in_entries offsets.entries) },
-    ghost sized: { size ≡ saturated (length (strings_of (names_in_entries offsets.entries))) },
+    ghost indexed: { IsIndex offsets (texts order.items) },
+    ghost sized: { size ≡ saturated (length (strings_of (texts order.items))) },
 }
 
 impl<'a> Names<'a> {
@@ -28,7 +29,8 @@ impl<'a> Names<'a> {
         ensures { held result ≡ [] }
     {
         Names {
-            offsets: IndexMap::new(alloc),
+            order: Vec::new(alloc),
+            offsets: BTreeMap::new(alloc),
             size: 0,
         }
     }
@@ -41,7 +43,14 @@ impl<'a> Names<'a> {
         if self.offset(name).is_some() {
             return Ok(());
         }
-        self.offsets.insert(name, self.size)?;
+        self.order.push(name)?;
+        match self.offsets.insert(name, self.size) {
+            Ok(_) => {}
+            Err(_) => {
+                let _ = self.order.pop();
+                return Err(AllocError);
+            }
+        }
         self.size = self
             .size
             .saturating_add(name.len() as u64)
@@ -88,11 +97,19 @@ impl<'a> Names<'a> {
     pub(crate) fn push_to(&self, out: &mut Vec<u8>) -> Result<(), AllocError>
         ensures { OnOk result (out.new.items ≡ out.old.items ++ strings_of (held self.now)) }
     {
-        for name in self.offsets.keys() {
-            push_ended(out, name)?;
-        }
+        push_each(out, self.order.as_slice())?;
         Ok(())
     }
+}
+
+/// Writes names, each with a NUL.
+fn push_each(out: &mut Vec<u8>, names: &[&[u8]]) -> Result<(), AllocError>
+    ensures { OnOk result (out.new.items ≡ out.old.items ++ flat_map (λ name. ended name.now) names.now) }
+{
+    for name in names {
+        push_ended(out, name)?;
+    }
+    Ok(())
 }
 
 /// Writes a name, and a NUL.

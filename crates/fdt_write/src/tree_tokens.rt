@@ -1,10 +1,15 @@
 // The tokens that spell a tree, one after another.
-ghost use Rattle.std.specs.Prelude.{◌<◌, ◌≡◌, ◌∷◌, length, IfSome, MatchOption};
-ghost use Rattle.fdt_tree.specs.Document.{IsNumbering};
+ghost use Rattle.std.specs.Prelude.{◌≡◌, ◌∷◌, List, All, IfNone, IfSome};
+ghost use Rattle.fdt_tree.specs.Visits.{IsLive};
+ghost use Rattle.fdt_tree.specs.declared.walk.Visit.{Visit};
+ghost use Rattle.fdt_read.specs.Spelling.{spelled_whole};
+ghost use Rattle.fdt_write.specs.Left.{tokens_of, left_at, AreLive, HasLiveNode};
+ghost use Rattle.fdt_write.specs.Meaning.{meaning};
 
-use fdt_tree::{NodeId, Tree};
+use fdt_tree::{NodeId, Tree, Visit, Walk};
+use std::marker::Model;
 
-/// A token of the structure block (5.4.1), with what it holds of the tree.
+/// A token of the structure block (Devicetree Specification 0.4, 5.4.1), with what it holds of the tree.
 #[derive(Clone, Copy)]
 pub enum TreeToken<'a> {
     /// A node of this name begins. The root's name is empty.
@@ -17,98 +22,103 @@ pub enum TreeToken<'a> {
     End,
 }
 
-/// Where a walk over the tokens of a tree stands at a node.
+/// Where the tokens of a tree stand.
 #[derive(Clone, Copy)]
 pub(crate) enum Step {
-    /// Before its BEGIN_NODE.
-    Before,
-    /// Before the property of this number, or past the last one.
-    Inside(usize),
-    /// After its END_NODE.
-    After,
+    /// Before the next visit of the walk.
+    Between,
+    /// Before the property of this number of this node, or past its last one.
+    Inside(NodeId, usize),
     /// After END.
     Done,
 }
 
-/// The tokens that spell a tree, one after another. Takes no memory.
-#[derive(Clone, Copy)]
+/// The tokens that spell a tree, one after another (Devicetree Specification 0.4, 5.4.2). Takes no memory. Contracts see
+/// the tokens that are left.
+#[derive(Drop)]
 pub struct TreeTokens<'a> {
     tree: &'a Tree,
-    node: NodeId,
+    walk: Walk<'a>,
     step: Step,
-    ghost numbered: { IsNumbering tree.now },
-    ghost live: { node < length tree.now.places },
+}
+
+impl<'a> Model for TreeTokens<'a> {
+    ghost use Rattle.std.specs.Prelude.{List};
+    ghost use Rattle.fdt_read.specs.Tokens.{Token};
+
+    ghost Value = { List Token };
+
+    ghost use Rattle.fdt_write.specs.Left.{left_at, AreLive};
+
+    ghost view = { λ tokens. left_at tokens.tree.now tokens.walk tokens.step };
+
+    ghost invariant = { λ tokens. AreLive tokens.tree.now tokens.walk tokens.step };
 }
 
 impl<'a> TreeTokens<'a> {
-    ghost use Rattle.fdt_read.specs.Spelling.{spelled_whole};
-    ghost use Rattle.fdt_read.specs.Tokens.{end_node};
-    ghost use Rattle.fdt_write.specs.Left.{left_at};
-    ghost use Rattle.fdt_write.specs.Meaning.{meaning};
-    ghost use Rattle.fdt_write.specs.Walk.{left};
-    ghost use Rattle.fdt_write.specs.declared.tree_tokens.Step.TheVariants.{Before, After};
-
     /// All tokens of a tree, in document order.
     pub fn new(tree: &'a Tree) -> TreeTokens<'a>
-        ensures { left result ≡ spelled_whole tree.now.tree }
+        ensures { result ≡ spelled_whole tree.now.tree }
     {
-        tree.numbering();
         TreeTokens {
             tree,
-            node: tree.root(),
-            step: Step::Before,
+            walk: Walk::new(tree),
+            step: Step::Between,
         }
     }
+}
 
-    /// Goes into a node, past its BEGIN_NODE.
-    fn begin(&mut self, node: NodeId) -> TreeToken<'a>
-        requires { node < length self.old.tree.now.places }
-        ensures { left_at self.old.tree.now node Before ≡ meaning result ∷ left self.new }
-    {
-        self.node = node;
-        self.step = Step::Inside(0);
-        TreeToken::BeginNode(self.tree.name(node))
+/// The token that a visit begins with, and where the tokens stand after it.
+fn visited<'a>(tree: &'a Tree, visit: Visit) -> (TreeToken<'a>, Step)
+    requires { IsLive tree.now visit }
+    ensures token { (left : List Visit) → tokens_of tree.now (visit ∷ left) ≡ meaning result.0 ∷ left_at tree.now left result.1 }
+    ensures live { HasLiveNode tree.now result.1 }
+{
+    match visit.entered() {
+        Some(node) => (
+            TreeToken::BeginNode(tree.name(node)),
+            Step::Inside(node, 0),
+        ),
+        None => (TreeToken::EndNode, Step::Between),
     }
+}
 
-    /// Goes past the END_NODE of a node.
-    fn finish(&mut self, node: NodeId) -> TreeToken<'a>
-        requires { node < length self.old.tree.now.places }
-        ensures { end_node ∷ left_at self.old.tree.now node After ≡ meaning result ∷ left self.new }
-    {
-        self.node = node;
-        self.step = Step::After;
-        TreeToken::EndNode
+/// The token of the next visit of a walk, or END, and where the tokens stand after it.
+fn next_visited<'a>(tree: &'a Tree, walk: &mut Walk<'a>) -> (TreeToken<'a>, Step)
+    requires { All (IsLive tree.now) walk.old }
+    ensures token { tokens_of tree.now walk.old ≡ meaning result.0 ∷ left_at tree.now walk.new result.1 }
+    ensures live { AreLive tree.now walk.new result.1 }
+{
+    match walk.next() {
+        Some(visit) => visited(tree, visit),
+        None => (TreeToken::End, Step::Done),
     }
+}
 
-    /// The token after BEGIN_NODE and `index` properties.
-    fn next_inside(&mut self, index: usize) -> TreeToken<'a>
-        requires { self.old.step ≡ Step.Inside index }
-        ensures { left self.old ≡ meaning result ∷ left self.new }
-    {
-        if index < self.tree.prop_count(self.node) {
-            let (name, value) = self.tree.prop_at(self.node, index);
-            self.step = Step::Inside(index + 1);
-            return TreeToken::Property(name, value);
-        }
-        match self.tree.first_child(self.node) {
-            Some(child) => self.begin(child),
-            None => self.finish(self.node),
-        }
-    }
-
-    /// The token after END_NODE.
-    fn next_after(&mut self) -> TreeToken<'a>
-        requires { self.old.step ≡ Step.After }
-        ensures { left self.old ≡ meaning result ∷ left self.new }
-    {
-        if let Some(sibling) = self.tree.next_sibling(self.node) {
-            return self.begin(sibling);
-        }
-        match self.tree.parent(self.node) {
-            Some(above) => self.finish(above),
-            None => {
-                self.step = Step::Done;
-                TreeToken::End
+/// The next token, and where the tokens stand after it; none after END.
+fn next_token<'a>(
+    tree: &'a Tree,
+    walk: &mut Walk<'a>,
+    step: Step,
+) -> Option<(TreeToken<'a>, Step)>
+    requires { AreLive tree.now walk.old step }
+    ensures token { IfSome result (λ next. left_at tree.now walk.old step ≡ meaning next.0 ∷ left_at tree.now walk.new next.1) }
+    ensures live { IfSome result (λ next. AreLive tree.now walk.new next.1) }
+    ensures end { IfNone result (step ≡ Step.Done) }
+    ensures kept { IfNone result (walk.new ≡ walk.old) }
+{
+    match step {
+        Step::Done => None,
+        Step::Between => Some(next_visited(tree, walk)),
+        Step::Inside(node, index) => {
+            if index < tree.prop_count(node) {
+                let (name, value) = tree.prop_at(node, index);
+                Some((
+                    TreeToken::Property(name, value),
+                    Step::Inside(node, index + 1),
+                ))
+            } else {
+                Some(next_visited(tree, walk))
             }
         }
     }
@@ -119,18 +129,18 @@ impl<'a> Iterator for TreeTokens<'a> {
 
     ghost use Rattle.std.specs.Iterator.{YieldsFirstBy, item_count};
     ghost use Rattle.fdt_write.specs.Meaning.{meaning};
-    ghost use Rattle.fdt_write.specs.Walk.{left};
 
-    ghost next_gives = { YieldsFirstBy meaning left };
+    ghost next_gives = { YieldsFirstBy meaning (λ tokens. tokens) };
 
-    ghost remaining = { item_count left };
+    ghost remaining = { item_count (λ tokens. tokens) };
 
     fn next(&mut self) -> Option<TreeToken<'a>> {
-        match self.step {
-            Step::Before => Some(self.begin(self.node)),
-            Step::Inside(index) => Some(self.next_inside(index)),
-            Step::After => Some(self.next_after()),
-            Step::Done => None,
+        match next_token(self.tree, &mut self.walk, self.step) {
+            None => None,
+            Some((token, step)) => {
+                self.step = step;
+                Some(token)
+            }
         }
     }
 }

@@ -1,5 +1,4 @@
 use Rattle.std.proofs.Common.{◌≡◌, ◌++◌}
-use Rattle.fdt_write.specs.Walk.{left}
 use Rattle.fdt_listing.specs.Listing.{tree_lines}
 use Rattle.fdt_listing.proofs.Listed.{tokens_lines}
 use Rattle.fdt_listing.proofs.listing.append_nodes.Given as goal
@@ -7,4 +6,4 @@ use Rattle.fdt_listing.proofs.listing.append_nodes.Given as goal
 -- What was added, and the lines of the tokens that are left, are the lines of the tree.
 abbrev pub invariant-loop-token : goal.invariant-loop-token
 invariant-loop-token l =
-    l.out ++ tokens_lines l.nodes (left l.token-iterator) ≡ l.initial.out ++ tree_lines l.tree.tree
+    l.out ++ tokens_lines l.nodes l.token-iterator ≡ l.initial.out ++ tree_lines l.tree.tree

@@ -1,6 +1,8 @@
 use Rattle.std.proofs.Common.{◌≡◌, length, inr, sym, ap, ◌∙◌, arith, eq-eqb, subst, Ok, Err, ◌++◌, refl, ◌+◌, cond}
 use Rattle.fdt_tree.specs.Assembled.{document, linked, IsLinked}
-use Rattle.fdt_tree.specs.Document.{Document, place_of, with_node, with_child}
+use Rattle.std.specs.Prelude.{List, IsTrue}
+use Rattle.fdt_tree.specs.Tree.{Bytes, Property, is_node_name}
+use Rattle.fdt_tree.specs.Document.{Document, place_of, with_node, with_child, have_names}
 use Rattle.fdt_tree.specs.declared.edit_fault.EditFault.TheVariants.{Deep}
 use Rattle.fdt_tree.proofs.Links.{reads, after_link, child_of, length-last}
 use Rattle.fdt_tree.proofs.tree.Tree.add_node.Goals as goal
@@ -15,7 +17,7 @@ overflow_add-node c =
     let f = reads _ _ _ _ _ _ c.self.invariant c.self.view_is c.parent.view_is c.requires.live c.index-above.ensures in omega (arith, f.shallow)
 
 linked_in : (c : goal.Joined-link) → c.link.new.nodes.items ≡ linked c.self.inside.nodes.items c.parent.inside.number (record { parent = c.parent.inside.number; position = c.len-position.result; depth = c.index-above.result.now.depth + 1; name = c.append.new.self; properties = c.new.result; children = c.new-2.result }) → IsLinked (document c.link.new.nodes.items) c.link.new.nodes.items × (document c.link.new.nodes.items ≡ with_node c.args.self.now (place_of c.args.self.now c.args.parent) c.append.new.self c.new.result)
-linked_in c e = after_link _ _ _ _ _ _ _ c.self.invariant c.self.view_is c.parent.view_is c.requires.live c.index-above.ensures e refl refl c.if-depth-eq-DEPTH_LIMIT.false c.new-2.ensures c.len-position.ensures
+linked_in c e = after_link _ _ _ _ _ _ _ c.self.invariant c.self.view_is c.parent.view_is c.requires.live c.index-above.ensures e refl refl c.if-depth-eq-DEPTH_LIMIT.false c.new-2.ensures c.len-position.ensures (subst (λ (z : Bytes). IsTrue (is_node_name z)) (sym (c.in-Ok.ensures.ok ∙ ap (λ z. z ++ c.args.name.now) c.new-held.ensures)) c.requires.node_name) (subst (λ (z : List Property). IsTrue (have_names z)) (sym c.new.ensures) refl)
 
 pub invariant_of-self : goal.invariant_of-self
 invariant_of-self c =

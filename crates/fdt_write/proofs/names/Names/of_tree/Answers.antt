@@ -1,8 +1,9 @@
+use Rattle.std.proofs.Common.{List}
 use Rattle.std.proofs.lemmas.Iterator.Consumers.{YieldsList-from_first, YieldsList-end}
 use Rattle.fdt_read.specs.Spelling.{spelled_whole}
+use Rattle.fdt_read.specs.Tokens.{Token}
 use Rattle.fdt_write.specs.Held.{held}
 use Rattle.fdt_write.specs.Meaning.{meaning}
-use Rattle.fdt_write.specs.Walk.{left}
 use Rattle.fdt_write.proofs.UsedLemmas.{names-step, names-all}
 use Rattle.fdt_write.proofs.names.Names.of_tree.Goals as goal
 
@@ -13,5 +14,5 @@ loop-token-preserved c =
 pub returns : goal.returns
 returns c =
     let tree = c.args.tree.now.tree in
-    let all = YieldsList-end (YieldsList-from_first meaning left (spelled_whole tree) (cc c.new-token-items.ensures)) c.loop-token.yielded _ c.loop-token.yielded_by _ c.next.new.self c.in-None.is c.next.ensures.steps in
+    let all = YieldsList-end (YieldsList-from_first meaning (λ (tokens : List Token). tokens) (spelled_whole tree) (cc c.new-token-items.ensures)) c.loop-token.yielded _ c.loop-token.yielded_by _ c.next.new.self c.in-None.is c.next.ensures.steps in
     names-all tree c.loop-token.yielded (held c.loop-token.names) c.loop-token.invariant all.0

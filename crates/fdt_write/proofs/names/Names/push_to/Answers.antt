@@ -1,12 +1,8 @@
-use Rattle.std.proofs.Common.{◌++◌, ap, ◌∙◌}
-use Rattle.std.specs.Map.{keys_of}
-use Rattle.std.proofs.lemmas.Iterator.Consumers.{YieldsList-from_rest, YieldsList-end}
-use Rattle.fdt_write.specs.Strings.{strings_of}
-use Rattle.fdt_write.proofs.Whole.{keys-names}
+use Rattle.std.proofs.Common.{List, ℕ, ◌++◌, Bor, flat_map, sym, ap, ◌∙◌}
+use Rattle.std.proofs.lemmas.List.Folds.{flat_map-map}
+use Rattle.fdt_write.specs.Strings.{ended}
 use Rattle.fdt_write.proofs.names.Names.push_to.Goals as goal
 
 pub returns : goal.returns
 returns c =
-    let entries = c.args.self.now.offsets.entries in
-    let all = YieldsList-end (YieldsList-from_rest (keys_of entries) (cc c.keys-name-items.ensures.rest)) c.loop-name.yielded _ c.loop-name.yielded_by _ c.next.new.self c.in-None.is c.next.ensures.steps in
-    c.loop-name.invariant ∙ ap (λ names. c.args.out.now.items ++ strings_of names) (keys-names c.loop-name.yielded entries all.0)
+    c.in_ok-push_each.ensures ∙ (ap (λ (names : List (Bor (List ℕ))). c.args.out.now.items ++ flat_map (λ name. ended name.now) names) c.as_slice.ensures.value ∙ ap (λ bytes. c.args.out.now.items ++ bytes) (sym (flat_map-map ended (λ (name : Bor (List ℕ)). name.now) c.args.self.now.order.items)))
