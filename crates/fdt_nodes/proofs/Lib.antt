@@ -1,0 +1,10 @@
+pub mod EntryLemmas
+pub mod WalkLemmas
+pub mod PlaceNodes
+pub mod Turns
+pub mod PathLemmas
+pub mod Members
+pub mod ChildLists
+pub mod ChildMapLemmas
+pub mod PathSteps
+pub mod Instances

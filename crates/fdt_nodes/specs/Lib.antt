@@ -1,0 +1,6 @@
+pub mod Nodes
+pub mod Values
+pub mod Entries
+pub mod Held
+pub mod NodeItems
+pub mod ChildMaps
