@@ -10,10 +10,7 @@ mod image;
 mod nodes;
 mod parts;
 mod places;
-mod ranges;
-#[cfg(test)]
-mod tests;
-mod verdict;
+mod ranges;mod verdict;
 
 pub use build::build_guest;
 pub use fault::BuildFault;

@@ -1,5 +1,6 @@
 //! Jobs to measure, each with a number: `chunks N` draws N chunks from 16,777,216 free frames, `tables N` builds the tables of
-//! N GiB of pages, and `copy N` copies as many bytes as the page words of N GiB have.
+//! N GiB of memory that lie one frame too high for blocks, so that each page has a word of its own, and `blocks N` those of
+//! N GiB that lie right. It writes nothing, and answers how many chunks or tables there are.
 #![tactic(auto)]
 
 ghost use Rattle.std.specs.Prelude.{◌<◌, ◌≤◌};
@@ -35,15 +36,17 @@ fn draw_chunks(alloc: Global, count: u64) -> Result<u64, AllocError> {
     Ok(drawn)
 }
 
-/// Builds the tables of so many GiB of pages, and answers how many there are; none where there is no room.
-fn count_tables(alloc: Global, gigabytes: u64) -> Result<u64, AllocError>
+/// Builds the tables of so many GiB of memory, which lies `shift` frames past a multiple of 1 GiB, and answers how many there
+/// are; none where there is no room.
+fn count_tables(alloc: Global, gigabytes: u64, shift: u64) -> Result<u64, AllocError>
     requires some { 0 < gigabytes }
     requires low { gigabytes ≤ 64 }
+    requires near { shift ≤ 1 }
 {
     let mut ranges = List::new(alloc);
     ranges.push(MapRange {
         page: 1 << 18,
-        first: FRAMES,
+        first: FRAMES + shift,
         count: gigabytes << 18,
         kind: Kind::Ram,
     })?;
@@ -52,15 +55,6 @@ fn count_tables(alloc: Global, gigabytes: u64) -> Result<u64, AllocError>
         Ok(image) => Ok(image.page_count() as u64),
         Err(_) => Ok(0),
     }
-}
-
-/// Copies the bytes of as many words as so many GiB have pages, and answers how many bytes that is.
-fn copy_words(alloc: Global, gigabytes: u64) -> Result<u64, AllocError>
-    requires { gigabytes ≤ 64 }
-{
-    let source = vec![in alloc; 7u8; (gigabytes << 21) as usize]?;
-    let copy = Vec::from_slice(alloc, &source)?;
-    Ok(copy.len() as u64)
 }
 
 /// What a job answers, or nothing where there is no such job.
@@ -72,8 +66,8 @@ fn measured(alloc: Global, job: &str, number: u64) -> Result<Option<u64>, AllocE
         return Ok(None);
     }
     match job {
-        "tables" => Ok(Some(count_tables(alloc, number)?)),
-        "copy" => Ok(Some(copy_words(alloc, number)?)),
+        "tables" => Ok(Some(count_tables(alloc, number, 1)?)),
+        "blocks" => Ok(Some(count_tables(alloc, number, 0)?)),
         _ => Ok(None),
     }
 }
@@ -87,5 +81,5 @@ fn main(rt: HostRuntime) -> io::Result<()> {
             }
         }
     }
-    println!(rt; "usage: dom0less_bench chunks|tables|copy NUMBER")
+    println!(rt; "usage: dom0less_bench chunks|tables|blocks NUMBER")
 }

@@ -7,8 +7,8 @@ use dl_base::{Files, MemFiles, MemOuts, MemSink, Status};
 use std::alloc::{AllocError, Global};
 use std::{fs, io};
 
-// Room for what a job writes: the image of the example has 1,062,960 bytes.
-const ROOM: usize = 2_000_000;
+// Room for what a job writes: the image of the example has 12,336 bytes.
+const ROOM: usize = 100_000;
 
 /// What a run answered, wrote and put.
 #[derive(Drop)]

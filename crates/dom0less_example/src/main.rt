@@ -6,7 +6,7 @@ mod job;
 mod shown;
 
 use crate::job::{Job, read_files, run_job};
-use crate::shown::{show_file, show_text, show_walk};
+use crate::shown::{show_image, show_text};
 use std::io;
 
 /// The names of the files that the jobs read.
@@ -20,20 +20,20 @@ const FILES: [&str; 7] = [
     "Image-1",
 ];
 
-/// Builds the guest of the host tree, and shows its image.
-fn show_build(rt: &impl Print, job: &Job) -> io::Result<()> {
+/// The guest addresses whose walks are shown: the first and the last of the guest's memory, and those beside them.
+const ADDRESSES: [u64; 4] = [0x3fff_ffff, 0x4000_0000, 0x5fff_ffff, 0x6000_0000];
+
+/// Shows what the build of the host tree's guest answered, and its image.
+fn show_build(rt: &(impl Print + AllocGlobal), job: &Job) -> io::Result<()> {
     let code = job.status.code();
     println!(rt; "dom0less -b host.dtb: status {code}")?;
     if let Some((_name, bytes)) = job.outs.written(1) {
-        show_file(rt, bytes)?;
-        for address in [0x3fff_ffff, 0x4000_0000, 0x5fff_ffff, 0x6000_0000] {
-            show_walk(rt, bytes, address)?;
-        }
+        show_image(rt, bytes, &ADDRESSES)?;
     }
     Ok(())
 }
 
-/// Makes the boot script of the configuration, and shows it.
+/// Shows what the run for the boot script answered, and the script.
 fn show_script(rt: &impl Print, job: &Job) -> io::Result<()> {
     let code = job.status.code();
     println!(rt; "dom0less -c imagebuilder.cfg --script-only: status {code}")?;

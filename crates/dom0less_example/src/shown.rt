@@ -1,71 +1,57 @@
 // What an image file holds, for the eye.
-ghost use Rattle.std.specs.Prelude.{◌≡◌, ◌/◌, ◌%◌, ◌^◌};
+ghost use Rattle.std.specs.Prelude.{◌≡◌, ◌<◌, ◌^◌};
 
+use std::alloc::{AllocError, Global};
 use std::io;
+use stage2_walk::{Image, Step, pages_spanned, read_image};
 
-// A page in the file, in bytes: its frame, and 512 words of 8 bytes.
-const PAGE: usize = 4104;
-
-// The file's header, in bytes: 8 letters, the root frame and the number of pages.
-const HEADER: usize = 24;
-
-/// The little-endian word at a place, or 0 past the end.
-fn word_at(bytes: &[u8], place: usize) -> u64 {
-    let Some(rest) = bytes.get(place..) else {
-        return 0;
+/// Shows the length of an image file and what stands in its header, and where addresses below 2^40 are walked to.
+pub(crate) fn show_image(rt: &(impl Print + AllocGlobal), bytes: &[u8], addresses: &[u64]) -> io::Result<()> {
+    let Ok(image) = read_image(rt.alloc(), bytes) else {
+        return println!(rt; "domU0.s2: no image");
     };
-    match rest {
-        [a, b, c, d, e, f, g, h, ..] => u64::from_le_bytes([*a, *b, *c, *d, *e, *f, *g, *h]),
-        _ => 0,
-    }
-}
-
-/// The word of a frame's page at an index below 512, or 0 where the file has no such page.
-fn word_of(bytes: &[u8], frame: u64, index: u64) -> u64 {
-    let Some(pages) = bytes.get(HEADER..) else {
-        return 0;
-    };
-    for page in pages.chunks(PAGE) {
-        if word_at(page, 0) == frame {
-            return word_at(page, 8 + 8 * (index % 512) as usize);
-        }
-    }
-    0
-}
-
-/// The frame that a word names.
-fn frame_in(word: u64) -> u64
-    ensures { result ≡ word / 4096 % 2 ^ 36 }
-{
-    word / 4096 % (1 << 36)
-}
-
-/// Shows the length and the header of a file.
-pub(crate) fn show_file(rt: &impl Print, bytes: &[u8]) -> io::Result<()> {
     let length = bytes.len();
-    let root = word_at(bytes, 8);
-    let pages = word_at(bytes, 16);
-    println!(rt; "domU0.s2: {length} bytes, root frame {root:#x}, {pages} tables")
+    let root = image.root();
+    let tables = image.page_count();
+    println!(rt; "domU0.s2: {length} bytes, root frame {root:#x}, {tables} tables")?;
+    for &address in addresses {
+        show_walk(rt, &image, address % (1 << 40))?;
+    }
+    Ok(())
 }
 
-/// Shows the words that a walk of an address below 2^39 meets at levels 1, 2 and 3.
-pub(crate) fn show_walk(rt: &impl Print, bytes: &[u8], address: u64) -> io::Result<()> {
-    let first = word_of(bytes, word_at(bytes, 8), address / (1 << 30));
-    let second = if first == 0 {
-        0
-    } else {
-        word_of(bytes, frame_in(first), address / (1 << 21))
-    };
-    let third = if second == 0 {
-        0
-    } else {
-        word_of(bytes, frame_in(second), address / 4096)
-    };
-    if third == 0 {
+/// Shows the words that the walk of an address meets, and where it goes.
+fn show_walk(rt: &(impl Print + AllocGlobal), image: &Image, address: u64) -> io::Result<()>
+    requires { address < 2 ^ 40 }
+{
+    let Step::Mapped { address: host, .. } = image.walk(address) else {
         return println!(rt; "{address:#x}: not mapped");
+    };
+    print!(rt; "{address:#x}: words")?;
+    for word in &words_met(rt.alloc(), image, address)? {
+        print!(rt; " {word:#x}")?;
     }
-    let host = frame_in(third) * 4096 + address % 4096;
-    println!(rt; "{address:#x}: words {first:#x} {second:#x} {third:#x}, host address {host:#x}")
+    println!(rt; ", host address {host:#x}")
+}
+
+/// The words that the walk of an address meets, down to the first that names no table.
+fn words_met(alloc: Global, image: &Image, address: u64) -> Result<Vec<u64>, AllocError>
+    requires { address < 2 ^ 40 }
+{
+    let mut words = Vec::new(alloc);
+    let mut frame = image.root() + address / (1 << 39);
+    for level in 1..4u8 {
+        let index = (address / 4096 / pages_spanned(level) % 512) as usize;
+        let Some(word) = image.word(frame, index) else {
+            break;
+        };
+        words.push(word)?;
+        if word % 4 != 3 {
+            break;
+        }
+        frame = word / 4096 % (1 << 36);
+    }
+    Ok(words)
 }
 
 /// Shows a text, if it is one.

@@ -1,13 +1,12 @@
 -- What the words of the tables mean.
-use Rattle.std.proofs.Common.{◌≡◌, ℕ, ◌+◌, ◌*◌, ◌/◌, ◌^◌, ◌<◌, Some, None, refl, sym, ap, subst, ◌∙◌, arith}
+use Rattle.std.proofs.Common.{◌≡◌, ℕ, ◌+◌, ◌*◌, ◌/◌, ◌^◌, ◌<◌, ap, ◌∙◌, arith}
 use Rattle.dl_base.specs.Maps.{Target, attributes}
 use Rattle.dl_base.specs.declared.ranges.Kind.{Kind}
 use Rattle.dl_base.specs.declared.ranges.Kind.TheVariants.{Ram, Device, Shared}
 use Rattle.stage2_walk.specs.Descriptors.{bits, frame_field, attribute_field, meaning}
 use Rattle.stage2_walk.specs.declared.descriptor.Meaning.TheVariants.{Table, Leaf}
-use Rattle.stage2_tables.specs.Words.{page_word, table_word}
-use Rattle.stage2_tables.specs.Tables.{table_named, table_in, goal_named, goal_in}
-use Rattle.stage2_tables.specs.Filling.{HasNoLeaf, IsNoLeaf}
+use Rattle.stage2_tables.specs.Words.{table_word}
+use Rattle.stage2_tables.specs.Least.{leaf_word}
 
 from_fields-page : (word frame attr : ℕ) → bits word 0 1 ≡ 1 → bits word 1 1 ≡ 1 → frame_field word ≡ frame → attribute_field word ≡ attr → meaning 3 word ≡ Leaf frame attr
 unfolding meaning
@@ -21,7 +20,7 @@ page_fields frame Device low = (omega arith, omega arith, omega arith, omega ari
 page_fields frame Shared low = (omega arith, omega arith, omega arith, omega arith)
 
 -- a page word means its frame with the attributes of its kind
-pub meaning-page_word : (target : Target) → target.frame < 2 ^ 28 → meaning 3 (page_word target) ≡ Leaf target.frame (attributes target.kind)
+pub meaning-page_word : (target : Target) → target.frame < 2 ^ 28 → meaning 3 (leaf_word 3 target) ≡ Leaf target.frame (attributes target.kind)
 meaning-page_word target low =
     let f = page_fields target.frame target.kind low in
     from_fields-page (target.frame * 2 ^ 12 + attributes target.kind + 3) target.frame (attributes target.kind) f.0 f.1 f.2 f.3
@@ -37,39 +36,3 @@ meaning-table_word-first frame low = let f = table_fields frame low in rw (f.0, 
 pub meaning-table_word-second : (frame : ℕ) → frame < 2 ^ 28 → meaning 2 (table_word frame) ≡ Table frame
 unfolding meaning
 meaning-table_word-second frame low = let f = table_fields frame low in rw (f.0, f.1) (ap (λ (g : ℕ). Table g) f.2)
-
-pub table_named-first : (frame : ℕ) → frame < 2 ^ 28 → table_named 1 (Some (table_word frame)) ≡ Some frame
-table_named-first frame low = ap table_in (meaning-table_word-first frame low)
-
-pub table_named-second : (frame : ℕ) → frame < 2 ^ 28 → table_named 2 (Some (table_word frame)) ≡ Some frame
-table_named-second frame low = ap table_in (meaning-table_word-second frame low)
-
-pub goal_named-page : (target : Target) → target.frame < 2 ^ 28 → goal_named (Some (page_word target)) ≡ Some (target.frame, attributes target.kind)
-goal_named-page target low = ap goal_in (meaning-page_word target low)
-
-pub no_leaf-first : (frame : ℕ) → frame < 2 ^ 28 → HasNoLeaf 1 (Some (table_word frame))
-no_leaf-first frame low = subst IsNoLeaf (sym (meaning-table_word-first frame low)) tt
-
-pub no_leaf-second : (frame : ℕ) → frame < 2 ^ 28 → HasNoLeaf 2 (Some (table_word frame))
-no_leaf-second frame low = subst IsNoLeaf (sym (meaning-table_word-second frame low)) tt
-
--- a blank word names nothing
-pub table_named-blank : table_named 2 (Some 0) ≡ None
-unfolding meaning
-table_named-blank = refl
-
-pub table_named-blank_first : table_named 1 (Some 0) ≡ None
-unfolding meaning
-table_named-blank_first = refl
-
-pub goal_named-blank : goal_named (Some 0) ≡ None
-unfolding meaning
-goal_named-blank = refl
-
-pub no_leaf-blank : HasNoLeaf 2 (Some 0)
-unfolding meaning
-no_leaf-blank = tt
-
-pub no_leaf-blank_first : HasNoLeaf 1 (Some 0)
-unfolding meaning
-no_leaf-blank_first = tt

@@ -12,8 +12,9 @@ use Rattle.frame_alloc.proofs.FreeFrames.{is_in_nil, is_in_cons, is_in-append, i
 use Rattle.stage2_walk.specs.Pages.{Page, frames_of, page_of, blank_page}
 use Rattle.stage2_walk.specs.Files.{has_root}
 use Rattle.stage2_walk.proofs.WordLemmas.{frames_of-push}
-use Rattle.stage2_tables.specs.Draws.{AreApart, AreBlank, drawn_after, drawn_from, table_frames, left_after, free_after}
-use Rattle.stage2_tables.specs.Filling.{AreTableFrames}
+use Rattle.stage2_tables.specs.BlankPages.{AreApart, AreBlank}
+use Rattle.stage2_tables.specs.Draws.{drawn_after, drawn_from, table_frames, left_after, free_after}
+use Rattle.stage2_tables.specs.TableFrames.{AreTableFrames}
 use Rattle.stage2_tables.proofs.LengthWithout.{length-without}
 
 either_false : (a b : Bool) → (a || b) ≡ false → (a ≡ false) × (b ≡ false)

@@ -3,7 +3,6 @@ use Rattle.std.proofs.Common.{◌≡◌, ℕ, zero, suc, ◌+◌, ◌<◌, ◌�
 use Rattle.std.specs.List.{range_with_len, list_any, count_by}
 use Rattle.std.proofs.lemmas.List.Sums.{sum_by-append}
 use Rattle.dl_base.specs.Consecutive.{numbers}
-use Rattle.frame_alloc.proofs.Without.{numbers-split}
 
 any_same_range : (p q : ℕ → Bool) (a n : ℕ) → ((k : ℕ) → a ≤ k → k < a + n → p k ≡ q k) → list_any p (range_with_len a n) ≡ list_any q (range_with_len a n)
 any_same_range p q a zero same = refl
@@ -12,15 +11,11 @@ any_same_range p q a (suc n) same =
     let rest : list_any p (range_with_len (a + 1) n) ≡ list_any q (range_with_len (a + 1) n) = any_same_range p q (a + 1) n (λ k low high. same k (omega arith) (omega arith)) in
     ap (λ (b : Bool). b || list_any p (range_with_len (a + 1) n)) first ∙ ap (λ (b : Bool). q a || b) rest
 
--- a test that agrees with another finds a number where it does
-pub any-numbers-same : (p q : ℕ → Bool) (a n : ℕ) → ((k : ℕ) → a ≤ k → k < a + n → p k ≡ q k) → list_any p (numbers a n) ≡ list_any q (numbers a n)
-unfolding numbers
-any-numbers-same p q a n same = any_same_range p q a n same
-
 any_none_range : (a n : ℕ) → list_any (λ (_ : ℕ). false) (range_with_len a n) ≡ false
 any_none_range a zero = refl
 any_none_range a (suc n) = any_none_range (a + 1) n
 
+-- no number passes a test that fails each
 pub any-numbers-none : (p : ℕ → Bool) (a n : ℕ) → ((k : ℕ) → a ≤ k → k < a + n → p k ≡ false) → list_any p (numbers a n) ≡ false
 unfolding numbers
 any-numbers-none p a n none = any_same_range p (λ (_ : ℕ). false) a n none ∙ any_none_range a n
@@ -40,6 +35,7 @@ any_some_range p a (suc n) k low high holds = here_or_later (λ past. any_some_r
     here_or_later rest (inl same) = let here : p a ≡ true = ap p same ∙ holds in rw here refl
     here_or_later rest (inr past) = or_true (p a) (list_any p (range_with_len (a + 1) n)) (rest past)
 
+-- some number passes where one does
 pub any-numbers-some : (p : ℕ → Bool) (a n k : ℕ) → a ≤ k → k < a + n → p k ≡ true → list_any p (numbers a n) ≡ true
 unfolding numbers
 any-numbers-some p a n k low high holds = any_some_range p a n k low high holds
@@ -65,37 +61,11 @@ count_same_range p q a (suc n) same =
     count-cons p a (range_with_len (a + 1) n) ∙ ap (λ (b : Bool). cond b 1 0 + count_by p (range_with_len (a + 1) n)) first
     ∙ ap (λ (m : ℕ). cond (q a) 1 0 + m) rest ∙ sym (count-cons q a (range_with_len (a + 1) n))
 
-pub count-numbers-same : (p q : ℕ → Bool) (a n : ℕ) → ((k : ℕ) → a ≤ k → k < a + n → p k ≡ q k) → count_by p (numbers a n) ≡ count_by q (numbers a n)
-unfolding numbers
-count-numbers-same p q a n same = count_same_range p q a n same
-
-count_all_range : (a n : ℕ) → count_by (λ (_ : ℕ). true) (range_with_len a n) ≡ n
-count_all_range a zero = refl
-count_all_range a (suc n) = let rest = count_all_range (a + 1) n in count-cons (λ (_ : ℕ). true) a (range_with_len (a + 1) n) ∙ omega arith
-
 count_none_range : (a n : ℕ) → count_by (λ (_ : ℕ). false) (range_with_len a n) ≡ 0
 count_none_range a zero = refl
 count_none_range a (suc n) = let rest = count_none_range (a + 1) n in count-cons (λ (_ : ℕ). false) a (range_with_len (a + 1) n) ∙ omega arith
 
-pub count-numbers-all : (p : ℕ → Bool) (a n : ℕ) → ((k : ℕ) → a ≤ k → k < a + n → p k ≡ true) → count_by p (numbers a n) ≡ n
-unfolding numbers
-count-numbers-all p a n all = count_same_range p (λ (_ : ℕ). true) a n all ∙ count_all_range a n
-
+-- none is counted where each fails
 pub count-numbers-none : (p : ℕ → Bool) (a n : ℕ) → ((k : ℕ) → a ≤ k → k < a + n → p k ≡ false) → count_by p (numbers a n) ≡ 0
 unfolding numbers
 count-numbers-none p a n none = count_same_range p (λ (_ : ℕ). false) a n none ∙ count_none_range a n
-
-pub count-numbers-split : (p : ℕ → Bool) (a m n : ℕ) → count_by p (numbers a (m + n)) ≡ count_by p (numbers a m) + count_by p (numbers (a + m) n)
-count-numbers-split p a m n = ap (count_by p) (numbers-split a m n) ∙ count-append p (numbers a m) (numbers (a + m) n)
-
-count_shift_range : (p : ℕ → Bool) (b a n : ℕ) → count_by (λ i. p (b + i)) (range_with_len a n) ≡ count_by p (range_with_len (b + a) n)
-count_shift_range p b a zero = refl
-count_shift_range p b a (suc n) =
-    let next : b + (a + 1) ≡ (b + a) + 1 = omega arith in
-    count-cons (λ i. p (b + i)) a (range_with_len (a + 1) n)
-    ∙ ap (λ (m : ℕ). cond (p (b + a)) 1 0 + m) (count_shift_range p b (a + 1) n ∙ ap (λ (c : ℕ). count_by p (range_with_len c n)) next)
-    ∙ sym (count-cons p (b + a) (range_with_len ((b + a) + 1) n))
-
-pub count-numbers-shift : (p : ℕ → Bool) (b n : ℕ) → count_by (λ i. p (b + i)) (numbers 0 n) ≡ count_by p (numbers b n)
-unfolding numbers
-count-numbers-shift p b n = let at : b + 0 ≡ b = omega arith in count_shift_range p b 0 n ∙ ap (λ (c : ℕ). count_by p (range_with_len c n)) at

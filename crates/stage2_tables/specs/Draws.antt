@@ -1,36 +1,25 @@
 -- Which free frames become tables: the lowest pair, and then the lowest frames of what is left.
-use Rattle.std.specs.Prelude.{◌≡◌, ℕ, ◌+◌, ◌-◌, ◌^◌, ◌<◌, false, List, [], ◌∷◌, map, take, drop, Option, Some, None}
-use Rattle.dl_base.specs.Consecutive.{is_in}
+use Rattle.std.specs.Prelude.{ℕ, ◌+◌, ◌-◌, List, ◌∷◌, take, drop, Option, Some, None}
 use Rattle.frame_alloc.specs.Frames.{lowest_pair, without}
-use Rattle.stage2_walk.specs.Pages.{Page, frames_of, blank_page}
 
--- the frames of count tables, where the pair begins at root
+-- the frames of `count` tables in the order of drawing, where the pair begins at `root`
 abbrev pub drawn_after : ℕ → List ℕ → ℕ → List ℕ
 drawn_after count free root = root ∷ (root + 1) ∷ take (count - 2) (without root 2 free)
 
--- the frames of count tables in the order of drawing, if there is a pair
+-- the frames of `count` tables in the order of drawing, if there is a pair
 abbrev pub drawn_from : ℕ → List ℕ → Option ℕ → Option (List ℕ)
 drawn_from count free None = None
 drawn_from count free (Some root) = Some (drawn_after count free root)
 
--- the frames of count tables in the order of drawing, if the free frames have a pair
+-- the frames of `count` tables in the order of drawing, if the free frames have a pair
 abbrev pub table_frames : ℕ → List ℕ → Option (List ℕ)
 table_frames count free = drawn_from count free (lowest_pair free)
 
--- the free frames that are left
+-- the free frames that are left behind a pair, if there is one
 abbrev pub left_after : ℕ → List ℕ → Option ℕ → List ℕ
 left_after count free None = free
 left_after count free (Some root) = drop (count - 2) (without root 2 free)
 
--- the free frames that are left when those of count tables are drawn
+-- the free frames that are left when those of `count` tables are drawn
 abbrev pub free_after : ℕ → List ℕ → List ℕ
 free_after count free = left_after count free (lowest_pair free)
-
--- frames below 2^28, of which no two are equal
-abbrev pub AreApart : List ℕ → Type 0
-AreApart [] = Unit {0}
-AreApart (frame ∷ frames) = (frame < 2 ^ 28) × (is_in frames frame ≡ false) × AreApart frames
-
--- every page is blank
-abbrev pub AreBlank : List Page → Type 0
-AreBlank pages = pages ≡ map blank_page (frames_of pages)

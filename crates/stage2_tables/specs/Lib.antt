@@ -1,9 +1,11 @@
 pub mod Words
 pub mod Translation
-pub mod Tables
-pub mod Filling
-pub mod PageGoals
-pub mod Counts
 pub mod Draws
+pub mod BlankPages
+pub mod TableFrames
 pub mod Faults
-pub mod PageTables
+pub mod Least
+pub mod Laws
+pub mod Sweeps
+pub mod Leaves
+pub mod Steps

@@ -1,11 +1,12 @@
 // Drawing the frames of tables from a pool.
-ghost use Rattle.std.specs.Prelude.{◌≡◌, ◌+◌, ◌-◌, ◌%◌, ◌^◌, ◌<◌, ◌≤◌, [], ◌∷◌, ◌++◌, All, false, length, take, drop, Some, IfOk, IfErr, OnErr};
+ghost use Rattle.std.specs.Prelude.{◌≡◌, ◌+◌, ◌-◌, ◌%◌, ◌^◌, ◌<◌, ◌≤◌, [], ◌∷◌, ◌++◌, All, false, length, take, drop, Some, IfOk, IfErr, OnOk, OnErr};
 ghost use Rattle.dl_base.specs.Consecutive.{is_in};
 ghost use Rattle.frame_alloc.specs.Frames.{lowest_pair};
 ghost use Rattle.stage2_walk.specs.Pages.{frames_of};
-ghost use Rattle.stage2_tables.specs.Draws.{table_frames, free_after, AreApart, AreBlank};
+ghost use Rattle.stage2_tables.specs.BlankPages.{AreApart, AreBlank};
+ghost use Rattle.stage2_tables.specs.Draws.{table_frames, free_after};
 ghost use Rattle.stage2_tables.specs.Faults.{FaultAsStated};
-ghost use Rattle.stage2_tables.specs.Filling.{AreTableFrames};
+ghost use Rattle.stage2_tables.specs.TableFrames.{AreTableFrames};
 
 use crate::fault::TableFault;
 use frame_alloc::{FramePool, PoolFault};
@@ -70,6 +71,7 @@ pub fn draw_image(alloc: Global, needed: u64, pool: &mut FramePool) -> Result<Im
     ensures blank { IfOk result (λ image. AreBlank image.pages) }
     ensures tables { IfOk result (λ image. AreTableFrames image.root (frames_of image.pages)) }
     ensures count { IfOk result (λ image. length (frames_of image.pages) ≡ needed) }
+    ensures enough { OnOk result (needed ≤ length pool.old.free) }
     ensures rest { IfOk result (λ image. pool.new.free ≡ free_after needed pool.old.free) }
     ensures taken { IfOk result (λ image. All (λ frame. is_in pool.new.free frame ≡ false) (frames_of image.pages)) }
     ensures fault { IfErr result (λ fault. FaultAsStated needed pool.old.free fault) }

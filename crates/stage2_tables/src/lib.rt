@@ -1,17 +1,16 @@
-//! Builds stage 2 tables from ranges of guest pages, in frames of a pool.
+//! Builds the least stage 2 tables of ranges of guest pages, in frames of a pool.
 #![tactic(auto)]
 
 mod build;
-mod count;
-mod cursor;
 mod draw;
 mod fault;
-mod fill;
+pub mod laws;
+mod leaf;
+mod least;
 mod regions;
+mod spread;
+mod sweep;
 mod words;
 
 pub use build::build_tables;
 pub use fault::TableFault;
-
-#[cfg(test)]
-mod tests;

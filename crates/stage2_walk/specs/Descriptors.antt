@@ -1,5 +1,5 @@
 -- What a stage 2 descriptor means (Arm ARM, VMSAv8-64 stage 2 translation, 4 KB granule, 48-bit output addresses).
-use Rattle.std.specs.Prelude.{ℕ, ◌+◌, ◌*◌, ◌/◌, ◌%◌, ◌^◌, ◌==◌, ◌<◌, if◌then◌else◌}
+use Rattle.std.specs.Prelude.{ℕ, ◌+◌, ◌*◌, ◌/◌, ◌%◌, ◌^◌, ◌==◌, if◌then◌else◌}
 use Rattle.dl_base.specs.Regions.{span}
 use Rattle.stage2_walk.specs.declared.descriptor.Meaning.{Meaning}
 use Rattle.stage2_walk.specs.declared.descriptor.Meaning.TheVariants.{Invalid, Reserved, Table, Leaf}
@@ -30,10 +30,3 @@ valid_means level word =
 -- what a word of a level means
 unfoldable pub meaning : ℕ → ℕ → Meaning
 meaning level word = if bits word 0 1 == 0 then Invalid else valid_means level word
-
--- the frame of a meaning has 36 bits, as output addresses have 48
-abbrev pub IsLow : Meaning → Type 0
-IsLow Invalid = Unit {0}
-IsLow Reserved = Unit {0}
-IsLow (Table frame) = frame < 2 ^ 36
-IsLow (Leaf frame attr) = frame < 2 ^ 36

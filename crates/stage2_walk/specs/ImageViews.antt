@@ -1,4 +1,4 @@
--- How the fields of an image stand for its pages.
+-- For private contracts and proofs: how the fields of an image stand for its pages.
 use Rattle.std.specs.Prelude.{◌≡◌, ℕ, ◌-◌, ◌*◌, ◌/◌, ◌%◌, ◌^◌, ◌<◌, min, List, length, vec_len, vec_capacity, Some}
 use Rattle.stage2_walk.specs.Pages.{number_at, pages_at}
 use Rattle.stage2_walk.specs.Places.{place_in, AreAscending}

@@ -1,7 +1,11 @@
 pub mod Pages
 pub mod Descriptors
+pub mod MeaningFrames
 pub mod Walks
 pub mod Files
 pub mod Places
 pub mod TableImages
 pub mod ImageViews
+pub mod Runs
+pub mod Tears
+pub mod Reads

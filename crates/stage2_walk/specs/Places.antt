@@ -1,4 +1,4 @@
--- An index from frames to places.
+-- For private contracts and proofs: an index from frames to places.
 use Rattle.std.specs.Prelude.{ℕ, ◌<◌, ◌==◌, if◌then◌else◌, List, [], ◌∷◌, length, slice_index_or, Option, Some, None}
 use Rattle.stage2_walk.specs.declared.places.Place.{Place}
 

@@ -1,7 +1,8 @@
 // What a stage 2 descriptor means.
 ghost use Rattle.std.specs.Prelude.{◌≡◌, ◌≤◌, ◌<◌, ◌^◌, ◌+◌};
 ghost use Rattle.dl_base.specs.Regions.{span};
-ghost use Rattle.stage2_walk.specs.Descriptors.{meaning, leaf, bits, frame_field, attribute_field, IsLow};
+ghost use Rattle.stage2_walk.specs.Descriptors.{meaning, leaf, bits, frame_field, attribute_field};
+ghost use Rattle.stage2_walk.specs.MeaningFrames.{HasLowFrame};
 
 use crate::levels::pages_spanned;
 
@@ -33,7 +34,7 @@ fn leaf_of(word: u64, level: u8) -> Meaning
     requires at_least { 1 ≤ level }
     requires at_most { level ≤ 3 }
     ensures leaf { result ≡ leaf level word }
-    ensures low { IsLow result }
+    ensures low { HasLowFrame result }
 {
     let span = pages_spanned(level);
     Meaning::Leaf {
@@ -48,7 +49,7 @@ pub fn describe(word: u64, level: u8) -> Meaning
     requires at_least { 1 ≤ level }
     requires at_most { level ≤ 3 }
     ensures meaning { result ≡ meaning level word }
-    ensures low { IsLow result }
+    ensures low { HasLowFrame result }
 {
     if field(word, 0, 1) == 0 {
         return Meaning::Invalid;

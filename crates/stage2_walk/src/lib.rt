@@ -2,6 +2,8 @@
 //! words, the walk through them, and their file.
 #![tactic(auto)]
 
+mod audit;
+mod audit_fault;
 mod bytes;
 mod descriptor;
 mod file;
@@ -9,12 +11,20 @@ mod image;
 mod image_fault;
 mod levels;
 mod places;
+mod reached;
+mod read;
+mod run;
+mod run_list;
+mod table_words;
 mod walk;
 
+pub use audit::runs;
+pub use audit_fault::AuditFault;
 pub use descriptor::Meaning;
 pub use image::Image;
 pub use image_fault::ImageFault;
+pub use levels::pages_spanned;
+pub use read::read_image;
+pub use run::Run;
+pub use table_words::{Counted, TableWords};
 pub use walk::Step;
-
-#[cfg(test)]
-mod tests;

@@ -4,8 +4,8 @@ use Rattle.dl_base.specs.Consecutive.{is_in}
 use Rattle.frame_alloc.specs.Frames.{AreFrames, without}
 use Rattle.frame_alloc.proofs.FreeFrames.{lowest_pair-tells}
 use Rattle.stage2_walk.specs.Pages.{frames_of}
-use Rattle.stage2_tables.specs.Draws.{AreApart}
-use Rattle.stage2_tables.specs.Filling.{AreTableFrames}
+use Rattle.stage2_tables.specs.BlankPages.{AreApart}
+use Rattle.stage2_tables.specs.TableFrames.{AreTableFrames}
 use Rattle.stage2_tables.proofs.DrawLemmas.{AreApart-drawn, pair_low, drawn_tables, drawn_taken, drawn_count}
 use Rattle.stage2_tables.proofs.LengthWithout.{length-without}
 use Rattle.stage2_tables.proofs.draw.draw_image.Goals as goal

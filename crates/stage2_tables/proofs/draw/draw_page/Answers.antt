@@ -2,7 +2,7 @@ use Rattle.std.proofs.Common.{◌≡◌, ℕ, ◌++◌, ◌∷◌, drop, take, L
 use Rattle.frame_alloc.proofs.FreeFrames.{lowest_frame-front}
 use Rattle.stage2_walk.specs.Pages.{frames_of}
 use Rattle.stage2_walk.proofs.WordLemmas.{frames_of-push}
-use Rattle.stage2_tables.specs.Draws.{AreApart, AreBlank}
+use Rattle.stage2_tables.specs.BlankPages.{AreApart, AreBlank}
 use Rattle.stage2_tables.proofs.DrawLemmas.{AreApart-next, page_of-none, AreBlank-push}
 use Rattle.stage2_tables.proofs.draw.draw_page.Goals as goal
 

@@ -1,6 +1,6 @@
 use Rattle.std.proofs.Common.{◌≡◌, ◌+◌, ◌≤◌, ◌++◌, take, drop}
 use Rattle.stage2_walk.specs.Pages.{frames_of}
-use Rattle.stage2_tables.specs.Draws.{AreBlank}
+use Rattle.stage2_tables.specs.BlankPages.{AreBlank}
 use Rattle.stage2_tables.proofs.draw.draw_pages.Given as goal
 
 abbrev pub invariant-loop-drawn : goal.invariant-loop-drawn

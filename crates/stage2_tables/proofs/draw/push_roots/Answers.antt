@@ -2,7 +2,7 @@ use Rattle.std.proofs.Common.{◌≡◌, ℕ, ◌+◌, ◌++◌, [], ◌∷◌, 
 use Rattle.stage2_walk.specs.Pages.{Page, frames_of}
 use Rattle.stage2_walk.specs.TableImages.{TableImage}
 use Rattle.stage2_walk.proofs.WordLemmas.{frames_of-push}
-use Rattle.stage2_tables.specs.Draws.{AreBlank}
+use Rattle.stage2_tables.specs.BlankPages.{AreBlank}
 use Rattle.stage2_tables.proofs.DrawLemmas.{AreBlank-push, second_fresh}
 use Rattle.stage2_tables.proofs.draw.push_roots.Goals as goal
 
