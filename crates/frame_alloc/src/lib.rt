@@ -3,11 +3,7 @@
 
 mod extents;
 mod groups;
-#[cfg(test)]
-mod plain;
 mod pool;
 mod removal;
-#[cfg(test)]
-mod tests;
 
 pub use pool::{FramePool, PoolFault};

@@ -11,8 +11,6 @@ mod guests;
 mod lines;
 mod settings;
 mod shown;
-#[cfg(test)]
-mod tests;
 mod unused;
 mod values;
 mod variables;

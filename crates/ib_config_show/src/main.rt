@@ -7,8 +7,6 @@ mod fault;
 mod guest;
 mod line;
 mod settings;
-#[cfg(test)]
-mod tests;
 mod word;
 
 use crate::answer::answer;

@@ -3,8 +3,6 @@
 
 mod order;
 mod places;
-#[cfg(test)]
-mod tests;
 
 pub use order::files;
 pub use places::{FilePlace, PlaceFault, Places, place};

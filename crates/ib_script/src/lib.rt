@@ -12,8 +12,6 @@ mod phandles;
 mod properties;
 mod script;
 mod start;
-#[cfg(test)]
-mod tests;
 mod texts;
 mod words;
 
