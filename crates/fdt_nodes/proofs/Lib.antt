@@ -8,3 +8,4 @@ pub mod ChildLists
 pub mod ChildMapLemmas
 pub mod PathSteps
 pub mod Instances
+pub mod Searches

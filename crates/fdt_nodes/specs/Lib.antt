@@ -4,3 +4,4 @@ pub mod Entries
 pub mod Held
 pub mod NodeItems
 pub mod ChildMaps
+pub mod Controllers

@@ -3,12 +3,14 @@
 #![tactic(auto)]
 
 mod below;
+mod controllers;
 mod entries;
 mod path_index;
 mod paths;
 mod properties;
 
 pub use below::{children, descendants, found, nodes};
+pub use controllers::{gic, is_gic};
 pub use entries::{
     EntriesFault, Window, device_window, device_windows, region, regions, shared_window,
     shared_windows,

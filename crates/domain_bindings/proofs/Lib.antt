@@ -1,0 +1,9 @@
+pub mod Instances
+pub mod Kept
+pub mod ItemLemmas
+pub mod HostLemmas
+pub mod RamLemmas
+pub mod Sound
+pub mod EachItem
+pub mod Assured
+pub mod FirstLemmas

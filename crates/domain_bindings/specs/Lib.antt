@@ -1,0 +1,12 @@
+pub mod Reasons
+pub mod Modules
+pub mod Hosts
+pub mod Heads
+pub mod Statics
+pub mod Domains
+pub mod Ram
+pub mod Results
+pub mod Roles
+pub mod Merging
+pub mod Assured
+pub mod Firsts

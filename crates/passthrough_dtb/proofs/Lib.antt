@@ -1,0 +1,6 @@
+pub mod Instances
+pub mod Upward
+pub mod Turns
+pub mod Lists
+pub mod Noted
+pub mod Soundness

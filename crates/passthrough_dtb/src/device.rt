@@ -1,0 +1,181 @@
+// The first reason against a device.
+ghost use Rattle.std.specs.Prelude.{◌≡◌, ◌≤◌, ◌<◌, length, not, option_map};
+ghost use Rattle.std.specs.Option.{ForSome};
+ghost use Rattle.fdt_tree.specs.Document.{properties_of};
+ghost use Rattle.fdt_nodes.specs.Held.{node_of};
+ghost use Rattle.fdt_nodes.specs.Values.{passes};
+ghost use Rattle.fdt_nodes.specs.Entries.{is_whole};
+ghost use Rattle.passthrough_dtb.specs.Devices.{is_forced, lacks_path, is_path, has_bad_path, has_bad_cells, lacks_host, lacks_iommu, is_extended, is_no_list, has_bad_reg, has_bad_interrupts, has_bad_length, is_off_gic, reason_at};
+ghost use Rattle.fdt_nodes.specs.Controllers.{gic_phandle};
+
+use crate::gic::is_on_gic;
+use crate::hosts::{has_found, prop_found};
+use dl_base::Why;
+use fdt_nodes::{has, own_cells, string_at};
+use fdt_tree::{NodeId, Tree};
+
+fn is_forced(tree: &Tree, device: NodeId) -> bool
+    requires { device < length tree.now.places }
+    ensures { result ≡ is_forced (properties_of tree.now device) }
+{
+    has(tree, device, b"xen,force-assign-without-iommu")
+}
+
+fn lacks_path(tree: &Tree, device: NodeId) -> bool
+    requires { device < length tree.now.places }
+    ensures { result ≡ lacks_path (properties_of tree.now device) }
+{
+    !has(tree, device, b"xen,path")
+        && !(is_forced(tree, device)
+            && !has(tree, device, b"interrupts")
+            && !has(tree, device, b"interrupts-extended"))
+}
+
+fn is_path(text: Option<&[u8]>) -> bool
+    ensures { result ≡ is_path (option_map (λ t. t.now) text.entry) }
+{
+    match text {
+        None => false,
+        Some([]) => false,
+        Some([first, ..]) => *first == b'/',
+    }
+}
+
+fn has_bad_path(tree: &Tree, device: NodeId) -> bool
+    requires { device < length tree.now.places }
+    ensures { result ≡ has_bad_path (properties_of tree.now device) }
+{
+    has(tree, device, b"xen,path") && !is_path(string_at(tree, device, b"xen,path"))
+}
+
+fn has_bad_cells(tree: &Tree, device: NodeId) -> bool
+    requires { device < length tree.now.places }
+    ensures { result ≡ has_bad_cells (node_of tree.now device) }
+{
+    has(tree, device, b"xen,reg") && own_cells(tree, device).is_err()
+}
+
+fn lacks_host(tree: &Tree, device: NodeId, host: &Tree, found: &Option<NodeId>) -> bool
+    requires device { device < length tree.now.places }
+    ensures { result ≡ lacks_host (properties_of tree.now device) (option_map (node_of host.now) found.now) }
+{
+    has(tree, device, b"xen,path") && found.is_none()
+}
+
+fn lacks_iommu(tree: &Tree, device: NodeId, host: &Tree, found: &Option<NodeId>) -> bool
+    requires device { device < length tree.now.places }
+    requires found { ForSome found.now (λ node. node < length host.now.places) }
+    ensures { result ≡ lacks_iommu (properties_of tree.now device) (option_map (node_of host.now) found.now) }
+{
+    found.is_some() && !has_found(host, found, b"iommus") && !is_forced(tree, device)
+}
+
+fn is_extended(tree: &Tree, device: NodeId, host: &Tree, found: &Option<NodeId>) -> bool
+    requires device { device < length tree.now.places }
+    requires found { ForSome found.now (λ node. node < length host.now.places) }
+    ensures { result ≡ is_extended (properties_of tree.now device) (option_map (node_of host.now) found.now) }
+{
+    has(tree, device, b"interrupts-extended") || has_found(host, found, b"interrupts-extended")
+}
+
+/// Whether a value of `xen,reg` is empty or no whole entries.
+fn is_no_list(cells: (u32, u32), value: &[u8]) -> bool
+    requires address { (1 ≤ cells.0) × (cells.0 ≤ 2) }
+    requires size { (1 ≤ cells.1) × (cells.1 ≤ 2) }
+    ensures { result ≡ is_no_list cells value.now }
+{
+    let size = 4 * (2 * cells.0 + cells.1) as usize;
+    value.is_empty() || value.len() % size != 0
+}
+
+fn has_bad_reg(tree: &Tree, device: NodeId) -> bool
+    requires { device < length tree.now.places }
+    ensures { result ≡ has_bad_reg (node_of tree.now device) }
+{
+    let Ok(cells) = own_cells(tree, device) else {
+        return false;
+    };
+    match tree.prop(device, b"xen,reg") {
+        None => false,
+        Some(value) => is_no_list(cells, value),
+    }
+}
+
+/// Whether `interrupts` is there and no whole threes of cells.
+fn has_bad_threes(value: Option<&[u8]>) -> bool
+    ensures { result ≡ passes (λ v. not (is_whole 3 v)) (option_map (λ v. v.now) value.entry) }
+{
+    match value {
+        None => false,
+        Some(value) => value.len() % 12 != 0,
+    }
+}
+
+fn has_bad_length(tree: &Tree, device: NodeId, host: &Tree, found: &Option<NodeId>) -> bool
+    requires device { device < length tree.now.places }
+    requires found { ForSome found.now (λ node. node < length host.now.places) }
+    ensures { result ≡ has_bad_length (node_of tree.now device) (option_map (node_of host.now) found.now) }
+{
+    has_bad_reg(tree, device)
+        || has_bad_threes(tree.prop(device, b"interrupts"))
+        || has_bad_threes(prop_found(host, found, b"interrupts"))
+}
+
+fn is_off_gic(
+    tree: &Tree,
+    device: NodeId,
+    host: &Tree,
+    gic: Option<u32>,
+    found: &Option<NodeId>,
+) -> bool
+    requires device { device < length tree.now.places }
+    requires found { ForSome found.now (λ node. node < length host.now.places) }
+    requires gic { gic ≡ gic_phandle host.now.tree }
+    ensures { result ≡ is_off_gic host.now.tree (properties_of tree.now device) (option_map (node_of host.now) found.now) }
+{
+    if !has(tree, device, b"interrupts") {
+        return false;
+    }
+    match found {
+        None => true,
+        Some(node) => !is_on_gic(host, gic, *node),
+    }
+}
+
+/// The first reason against a device, where `gic` is the phandle of the host's GIC, and `found` the host's node that the
+/// device stands for.
+pub(crate) fn reason_at(
+    tree: &Tree,
+    device: NodeId,
+    host: &Tree,
+    gic: Option<u32>,
+    found: &Option<NodeId>,
+) -> Option<Why>
+    requires device { device < length tree.now.places }
+    requires found { ForSome found.now (λ node. node < length host.now.places) }
+    requires gic { gic ≡ gic_phandle host.now.tree }
+    ensures { result ≡ reason_at host.now.tree (node_of tree.now device) (option_map (node_of host.now) found.now) }
+{
+    if lacks_path(tree, device) {
+        return Some(Why::Missing);
+    }
+    if has_bad_path(tree, device) || has_bad_cells(tree, device) {
+        return Some(Why::BadValue);
+    }
+    if lacks_host(tree, device, host, found) {
+        return Some(Why::NoHostNode);
+    }
+    if lacks_iommu(tree, device, host, found) {
+        return Some(Why::NoIommu);
+    }
+    if is_extended(tree, device, host, found) {
+        return Some(Why::ExtendedInterrupts);
+    }
+    if has_bad_length(tree, device, host, found) {
+        return Some(Why::BadLength);
+    }
+    if is_off_gic(tree, device, host, gic, found) {
+        return Some(Why::NotGic);
+    }
+    None
+}

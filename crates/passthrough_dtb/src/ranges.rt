@@ -1,0 +1,149 @@
+// The ranges of host addresses that devices have.
+ghost use Rattle.std.specs.Prelude.{◌≡◌, ◌≤◌, ◌<◌, ◌++◌, [], List, length, map, flat_map, OnOk, IfOk};
+ghost use Rattle.fdt_nodes.specs.declared.entries.Window.{Window as Range};
+ghost use Rattle.fdt_nodes.specs.Held.{node_of};
+ghost use Rattle.passthrough_dtb.specs.Ranges.{is_among, and_range, range_reason, new_range_reason, range_item, ranges_after, ranges_before, ranges_in, whole_ranges, numbered, entries_of};
+ghost use Rattle.passthrough_dtb.specs.Held.{device_of, AreDevices};
+
+use crate::devices::Device;
+use crate::items::item_in;
+use crate::seen::Ranges;
+use dl_base::{
+    Described, Item, List, Part, What, Why, described, is_not_page, is_too_high, is_too_large,
+};
+use fdt_nodes::{EntriesFault, Window, device_windows, own_cells, path};
+use fdt_tree::{NodeId, Tree};
+use std::alloc::{AllocError, Global};
+
+/// The first reason against a range that repeats none before it; so many stand before.
+fn new_range_reason(count: usize, range: Window) -> Option<Why>
+    ensures { (before : List Range) → length before ≡ count → result ≡ new_range_reason before range }
+{
+    if count >= 64 {
+        return Some(Why::TooMany);
+    }
+    if is_not_page(range.host, range.guest, range.size) {
+        return Some(Why::NotPage);
+    }
+    if is_too_high(range.host, range.guest, range.size) {
+        return Some(Why::TooHigh);
+    }
+    if is_too_large(range.size) {
+        return Some(Why::TooLarge);
+    }
+    None
+}
+
+/// Describes a range after those that were met, and notes it.
+fn range_item(before: &mut Ranges, item: Item, range: Window) -> Result<Described, AllocError>
+    ensures item { IfOk result (λ found. found ≡ range_item before.old (record { item = item; range = range })) }
+    ensures before { OnOk result (before.new ≡ and_range before.old range) }
+{
+    let count = before.len();
+    let own = if before.add(range)? {
+        new_range_reason(count, range)
+    } else {
+        None
+    };
+    Ok(described(
+        item,
+        own,
+        What::Range {
+            host: range.host,
+            size: range.size,
+            guest: range.guest,
+        },
+    ))
+}
+
+/// The entries of a value of `xen,reg`; none where it is no whole entries.
+fn whole_ranges(alloc: Global, cells: (u32, u32), value: &[u8]) -> Result<List<Window>, AllocError>
+    requires address { (1 ≤ cells.0) × (cells.0 ≤ 2) }
+    requires size { (1 ≤ cells.1) × (cells.1 ≤ 2) }
+    ensures { IfOk result (λ ranges. ranges ≡ whole_ranges cells value.now) }
+{
+    match device_windows(alloc, value, cells) {
+        Ok(ranges) => Ok(ranges),
+        Err(EntriesFault::Length) => Ok(List::new(alloc)),
+        Err(EntriesFault::Memory) => Err(AllocError),
+    }
+}
+
+/// The ranges of a device.
+fn ranges_in(alloc: Global, partial: &Tree, device: NodeId) -> Result<List<Window>, AllocError>
+    requires { device < length partial.now.places }
+    ensures { IfOk result (λ ranges. ranges ≡ ranges_in (node_of partial.now device)) }
+{
+    let Ok(cells) = own_cells(partial, device) else {
+        return Ok(List::new(alloc));
+    };
+    match partial.prop(device, b"xen,reg") {
+        None => Ok(List::new(alloc)),
+        Some(value) => whole_ranges(alloc, cells, value),
+    }
+}
+
+/// Adds the items of the ranges of one device.
+fn add_ranges_of(
+    alloc: Global,
+    guest: u32,
+    path: &[u8],
+    ranges: &[Window],
+    before: &mut Ranges,
+    items: &mut List<Described>,
+) -> Result<(), AllocError>
+    ensures items { OnOk result (items.new ≡ items.old ++ ranges_after before.old (numbered guest path.now 0 ranges.now)) }
+    ensures before { OnOk result (before.new ≡ ranges_before before.old (numbered guest path.now 0 ranges.now)) }
+{
+    let mut number = 0u64;
+    for range in ranges {
+        let item = item_in(alloc, Part::Range, guest, path, number)?;
+        items.push(range_item(before, item, *range)?)?;
+        number += 1;
+    }
+    Ok(())
+}
+
+/// Adds the items of the ranges of a device.
+fn add_ranges_at(
+    alloc: Global,
+    partial: &Tree,
+    guest: u32,
+    device: NodeId,
+    before: &mut Ranges,
+    items: &mut List<Described>,
+) -> Result<(), AllocError>
+    requires { device < length partial.now.places }
+    ensures items { OnOk result (items.new ≡ items.old ++ ranges_after before.old (entries_of guest (node_of partial.now device))) }
+    ensures before { OnOk result (before.new ≡ ranges_before before.old (entries_of guest (node_of partial.now device))) }
+{
+    let path = path(alloc, partial, device)?;
+    let ranges = ranges_in(alloc, partial, device)?;
+    add_ranges_of(
+        alloc,
+        guest,
+        path.as_slice(),
+        ranges.as_slice(),
+        before,
+        items,
+    )
+}
+
+/// Adds the items of the ranges of devices.
+pub(crate) fn add_ranges(
+    alloc: Global,
+    partial: &Tree,
+    host: &Tree,
+    guest: u32,
+    devices: &[Device],
+    items: &mut List<Described>,
+) -> Result<(), AllocError>
+    requires { AreDevices partial.now host.now devices.now }
+    ensures { OnOk result (items.new ≡ items.old ++ ranges_after [] (flat_map (entries_of guest) (map (device_of partial.now) devices.now))) }
+{
+    let mut before = Ranges::new(alloc);
+    for device in devices {
+        add_ranges_at(alloc, partial, guest, device.node, &mut before, items)?;
+    }
+    Ok(())
+}

@@ -1,0 +1,5 @@
+pub mod Instances
+pub mod Turns
+pub mod Lists
+pub mod Links
+pub mod Soundness
