@@ -1,0 +1,251 @@
+-- Worked examples: hand-made items, and what the definitions say of them.
+use Rattle.std.specs.Prelude.{Result, Ok, Err, ◌≡◌, ℕ, zero, suc, Bool, true, false, List, [], ◌∷◌, ◌++◌, codes, Option, Some, None, option_map, length, decimal}
+use Rattle.std.proofs.Common.{refl}
+use Rattle.dl_base.specs.declared.ranges.BaseSize.{BaseSize}
+use Rattle.dl_base.specs.declared.ranges.FrameRange.{FrameRange}
+use Rattle.dl_base.specs.declared.ranges.Kind.TheVariants.{Ram, Device}
+use Rattle.dl_base.specs.declared.item.Part.{Part}
+use Rattle.dl_base.specs.declared.item.Part.TheVariants as parts
+use Rattle.dl_base.specs.declared.item.What.{What}
+use Rattle.dl_base.specs.declared.item.What.TheVariants as whats
+use Rattle.dl_base.specs.declared.item.ModuleKind.TheVariants.{Kernel, DeviceTree}
+use Rattle.dl_base.specs.declared.item.Described.{Described}
+use Rattle.dl_base.specs.declared.why.Why.TheVariants.{NotPage}
+use Rattle.dl_base.specs.Items.{item_text, why_text}
+use Rattle.dl_base.specs.Layouts.{usual_layout}
+use Rattle.dl_base.specs.Maps.{target_of, Target}
+use Rattle.dl_base.specs.Consecutive.{numbers, is_in}
+use Rattle.std.specs.Fmt.{digits}
+use Rattle.frame_alloc.specs.Frames.{without, lowest_group}
+use Rattle.frame_ranges.specs.Ranges.{have_common, lie_in}
+use Rattle.domain_plan.specs.Entries.{Entry}
+use Rattle.domain_plan.specs.Taken.{all_passed}
+use Rattle.domain_plan.specs.Refusals.{Refusal, first_refused}
+use Rattle.domain_plan.specs.Draws.{Drawn, Heaps, drawn, groups_drawn, free_frames, heaps}
+use Rattle.fdt_tree.specs.declared.node_id.NodeId.{NodeId}
+use Rattle.domain_plan.specs.declared.described.Guest.{Guest}
+use Rattle.domain_plan.specs.declared.described.PartialState.TheVariants as states
+use Rattle.domain_plan.specs.GuestMaps.{guest_ranges}
+
+-- 2 GiB of memory from address 0 on
+abbrev h2 : List FrameRange
+h2 = record { first = 0; count = 0x80000 } ∷ []
+
+abbrev item : Part → List ℕ → ℕ → What → Described
+item part path index what = record { item = record { part = part; path = path; index = index }; own = None; what = what }
+
+abbrev at : ℕ → ℕ → BaseSize
+at base size = record { base = base; size = size }
+
+abbrev host : Described → Entry
+host one = record { guest = None; partial_read = false; described = one }
+
+abbrev guest : ℕ → Described → Entry
+guest number one = record { guest = Some number; partial_read = false; described = one }
+
+abbrev dom0 : List ℕ
+dom0 = codes "/chosen/domU0"
+
+abbrev dom1 : List ℕ
+dom1 = codes "/chosen/domU1"
+
+abbrev head : List ℕ → ℕ → Bool → Bool → Described
+head path pages direct console = item parts.Head path 0 (whats.Head 1 pages None direct console)
+
+abbrev kernel : List ℕ → ℕ → ℕ → Described
+kernel path base size = item parts.Module (path ++ codes "/kernel") 0 (whats.Module Kernel (at base size))
+
+abbrev static : List ℕ → ℕ → ℕ → Described
+static path base size = item parts.Static path 0 (whats.Static (at base size))
+
+-- the line of a refusal
+abbrev text : Refusal → List ℕ
+text refusal = item_text refusal.0 ++ codes ": " ++ why_text refusal.1
+
+abbrev told : List FrameRange → List Entry → Option (List ℕ)
+told ram entries = option_map text (first_refused ram [] entries)
+
+-- direct-mapped static memory over the console's page
+abbrev over_layout : List Entry
+over_layout = guest 0 (head dom0 0 true false) ∷ guest 0 (static dom0 0x20000000 0x20000000) ∷ guest 0 (kernel dom0 0x200000 0x1000000) ∷ []
+
+over_layout_told : told h2 over_layout ≡ Some (codes "/chosen/domU0 static 0: GuestOverlap layout")
+unfolding first_refused have_common lie_in numbers digits usual_layout
+over_layout_told = refl
+
+abbrev reserve : ℕ → ℕ → ℕ → Described
+reserve index base size = item parts.Reserve [] index (whats.Reserve (at base size))
+
+-- the earlier of two items in the way is named, and the earlier item at fault
+abbrev over_reserve : List Entry
+over_reserve =
+    host (reserve 0 0x50000000 0x1000) ∷ guest 0 (head dom0 0 false false) ∷ guest 0 (static dom0 0x50000000 0x1000) ∷ guest 0 (kernel dom0 0x200000 0x1000) ∷
+    guest 1 (head dom1 0 false false) ∷ guest 1 (static dom1 0x50000000 0x1000) ∷ guest 1 (kernel dom1 0x400000 0x1000) ∷ []
+
+over_reserve_told : told h2 over_reserve ≡ Some (codes "/chosen/domU0 static 0: HostOverlap reserve 0")
+unfolding first_refused have_common lie_in numbers digits all_passed guest_ranges drawn groups_drawn free_frames without lowest_group is_in usual_layout
+over_reserve_told = refl
+
+abbrev uart : ℕ → List ℕ
+uart zero = codes "domU0:/passthrough/serial@ff010000"
+uart (suc number) = codes "domU1:/passthrough/serial@ff010000"
+
+abbrev range : ℕ → ℕ → Described
+range number index = item parts.Range (uart number) index (whats.Range 0xff010000 0x1000 0xff010000)
+
+abbrev irq : ℕ → ℕ → ℕ → Described
+irq number index value = item parts.Irq (uart number) index (whats.Irq value)
+
+-- two guests name one device's registers
+abbrev device_of_two : List Entry
+device_of_two =
+    guest 0 (head dom0 0x40000 false true) ∷ guest 0 (range 0 0) ∷ guest 0 (irq 0 0 22) ∷
+    guest 1 (head dom1 0x40000 false true) ∷ guest 1 (range 1 0) ∷ guest 1 (irq 1 0 22) ∷ []
+
+device_of_two_told : told h2 device_of_two ≡ Some (codes "domU1:/passthrough/serial@ff010000 range 0: HostOverlap domU0:/passthrough/serial@ff010000 range 0")
+unfolding first_refused have_common lie_in numbers digits all_passed guest_ranges drawn groups_drawn free_frames without lowest_group is_in usual_layout
+device_of_two_told = refl
+
+-- the same three numbers given twice are no fault, and map one page
+abbrev device_twice : List Entry
+device_twice = guest 0 (head dom0 0x40000 false true) ∷ guest 0 (range 0 0) ∷ guest 0 (range 0 1) ∷ guest 0 (irq 0 0 22) ∷ []
+
+device_twice_told : told h2 device_twice ≡ None
+unfolding first_refused have_common lie_in numbers digits all_passed guest_ranges drawn groups_drawn free_frames without lowest_group is_in usual_layout
+device_twice_told = refl
+
+device_twice_map : guest_ranges (all_passed [] device_twice) 0 [] ≡ record { page = 0xff010; first = 0xff010; count = 1; kind = Device } ∷ []
+unfolding first_refused have_common lie_in numbers digits all_passed guest_ranges drawn groups_drawn free_frames without lowest_group is_in usual_layout
+device_twice_map = refl
+
+-- the console of a guest has interrupt 0, and another guest's interrupt is taken
+irq_of_console_told : told h2 (guest 0 (head dom0 0x40000 false true) ∷ guest 0 (irq 0 0 0) ∷ []) ≡ Some (codes "domU0:/passthrough/serial@ff010000 interrupt 0: IrqTaken /chosen/domU0")
+unfolding first_refused have_common lie_in numbers digits all_passed guest_ranges drawn groups_drawn free_frames without lowest_group is_in usual_layout
+irq_of_console_told = refl
+
+irq_of_another_told : told h2 (guest 0 (head dom0 0x40000 false true) ∷ guest 0 (irq 0 3 22) ∷ guest 0 (irq 0 4 22) ∷ guest 1 (head dom1 0x40000 false true) ∷ guest 1 (irq 1 0 22) ∷ [])
+    ≡ Some (codes "domU1:/passthrough/serial@ff010000 interrupt 0: IrqTaken domU0:/passthrough/serial@ff010000 interrupt 3")
+unfolding first_refused have_common lie_in numbers digits all_passed guest_ranges drawn groups_drawn free_frames without lowest_group is_in usual_layout
+irq_of_another_told = refl
+
+abbrev shared : List ℕ → ℕ → ℕ → ℕ → Described
+shared path index base page = item parts.Shared (path ++ codes "/shm" ++ decimal index) 0 (whats.Shared (codes "ring") base page 0x200000 false)
+
+-- one region in two guests, and a third with another base
+abbrev ring : List Entry
+ring =
+    guest 0 (head dom0 0x4000 false true) ∷ guest 0 (shared dom0 0 0x60000000 0x8000000000) ∷
+    guest 1 (head dom1 0x4000 false true) ∷ guest 1 (shared dom1 0 0x60000000 0x8000000000) ∷ []
+
+ring_told : told h2 ring ≡ None
+unfolding first_refused have_common lie_in numbers digits all_passed guest_ranges drawn groups_drawn free_frames without lowest_group is_in usual_layout
+ring_told = refl
+
+ring_differs : told h2 (ring ++ guest 2 (shared (codes "/chosen/domU2") 0 0x60200000 0x8000000000) ∷ []) ≡ Some (codes "/chosen/domU2/shm0: ShmDiffers /chosen/domU0/shm0")
+unfolding first_refused have_common lie_in numbers digits all_passed guest_ranges drawn groups_drawn free_frames without lowest_group is_in usual_layout
+ring_differs = refl
+
+ring_twice : told h2 (guest 0 (head dom0 0x4000 false true) ∷ guest 0 (shared dom0 0 0x60000000 0x8000000000) ∷ guest 0 (shared dom0 1 0x60000000 0x8000000000) ∷ [])
+    ≡ Some (codes "/chosen/domU0/shm1: ShmTwice /chosen/domU0/shm0")
+unfolding first_refused have_common lie_in numbers digits all_passed guest_ranges drawn groups_drawn free_frames without lowest_group is_in usual_layout
+ring_twice = refl
+
+-- 513 pages: one chunk and one frame, from what a kernel in frame 1 leaves of 8 MiB
+abbrev two_draws : List Entry
+two_draws = guest 0 (head dom0 513 false false) ∷ guest 0 (kernel dom0 0x1000 0x1000) ∷ []
+
+abbrev small : List FrameRange
+small = record { first = 0; count = 2048 } ∷ []
+
+two_draws_map : option_map (λ (one : Drawn). guest_ranges (all_passed [] two_draws) 0 one.frames) (drawn 513 (free_frames small (all_passed [] two_draws)))
+    ≡ Some (record { page = 0x40000; first = 0x200; count = 512; kind = Ram } ∷ record { page = 0x200000; first = 0x400; count = 0; kind = Ram } ∷
+    record { page = 0x40200; first = 0; count = 1; kind = Ram } ∷ record { page = 0x200000; first = 1; count = 0; kind = Ram } ∷ [])
+unfolding first_refused have_common lie_in numbers digits all_passed guest_ranges drawn groups_drawn free_frames without lowest_group is_in usual_layout
+two_draws_map = refl
+
+-- 1,021 frames are free and no chunk of 512 is among them
+abbrev no_chunk : List Entry
+no_chunk = guest 0 (head dom0 512 false false) ∷ guest 0 (kernel dom0 0x1000 0x1000) ∷ []
+
+no_chunk_drawn : (drawn 512 (free_frames (record { first = 1; count = 1022 } ∷ []) (all_passed [] no_chunk)) ≡ None) × (length (free_frames (record { first = 1; count = 1022 } ∷ []) (all_passed [] no_chunk)) ≡ 1021)
+unfolding first_refused have_common lie_in numbers digits all_passed guest_ranges drawn groups_drawn free_frames without lowest_group is_in usual_layout
+no_chunk_drawn = (refl, refl)
+
+-- a static range of 4 GiB fills both banks
+abbrev banks : List Entry
+banks = guest 0 (head dom0 0 false false) ∷ guest 0 (static dom0 0x800000000 0x100000000) ∷ []
+
+abbrev frame_at : List Entry → ℕ → Option ℕ
+frame_at entries page = option_map (λ (target : Target). target.frame) (target_of (guest_ranges (all_passed [] entries) 0 []) page)
+
+banks_map : (frame_at banks 0xfffff ≡ Some 0x8bffff) × (frame_at banks 0x100000 ≡ None) × (frame_at banks 0x200000 ≡ Some 0x8c0000) × (frame_at banks 0x23ffff ≡ Some 0x8fffff)
+unfolding first_refused have_common lie_in numbers digits all_passed guest_ranges drawn groups_drawn free_frames without lowest_group is_in usual_layout
+banks_map = (refl, refl, refl, refl)
+
+-- a guest that asks for so many pages; its node does not matter
+abbrev heap_guest : NodeId → List ℕ → ℕ → Guest
+heap_guest node path pages = record {
+  domain = record { node = node; path = path; number = 0; cpus = 1; pages = pages; console = false; spis = None; direct = false; bootargs = None; partial = None; items = [] };
+  partial = states.None;
+  shared = [];
+  ports = [];
+}
+
+abbrev short_text : Result Heaps Refusal → Option (List ℕ)
+short_text (Err refusal) = Some (text refusal)
+short_text (Ok heaps) = None
+
+no_chunk_told : (node : NodeId) → short_text (heaps (heap_guest node dom0 512 ∷ []) (free_frames (record { first = 1; count = 1022 } ∷ []) (all_passed [] no_chunk))) ≡ Some (codes "/chosen/domU0 memory: NoRam 512 1021")
+unfolding heaps numbers digits all_passed drawn groups_drawn free_frames without lowest_group is_in usual_layout
+no_chunk_told node = refl
+
+abbrev load : ℕ → ℕ → Described
+load base size = item parts.Load (codes "Image") 0 (whats.Load (at base size))
+
+-- static memory over a loaded file
+static_over_load_told : told h2 (host (load 0x40000000 0x1000) ∷ guest 0 (head dom0 0 false false) ∷ guest 0 (static dom0 0x40000000 0x1000) ∷ []) ≡ Some (codes "/chosen/domU0 static 0: HostOverlap load Image")
+unfolding first_refused have_common lie_in numbers digits usual_layout
+static_over_load_told = refl
+
+-- a module that a loaded file covers claims nothing; a longer one does
+module_of_load_told : told h2 (host (load 0x200000 0x1000) ∷ guest 0 (head dom0 0 false false) ∷ guest 0 (kernel dom0 0x200000 0x1000) ∷ []) ≡ None
+unfolding first_refused have_common lie_in numbers digits usual_layout
+module_of_load_told = refl
+
+module_past_load_told : told h2 (host (load 0x200000 0x1000) ∷ guest 0 (head dom0 0 false false) ∷ guest 0 (kernel dom0 0x200000 0x1001) ∷ []) ≡ Some (codes "/chosen/domU0/kernel: HostOverlap load Image")
+unfolding first_refused have_common lie_in numbers digits usual_layout
+module_past_load_told = refl
+
+-- an item's own reason comes before all others
+own_reason_told : told h2 (guest 0 (head dom0 0 false false) ∷ guest 0 (record { item = (static dom0 0x50000800 0x1000).item; own = Some NotPage; what = whats.Unread }) ∷ []) ≡ Some (codes "/chosen/domU0 static 0: NotPage")
+unfolding first_refused have_common lie_in numbers digits usual_layout
+own_reason_told = refl
+
+-- memory that the host does not have is told before what lies there
+not_ram_told : told h2 (host (reserve 0 0x7ffff000 0x2000) ∷ guest 0 (head dom0 0 false false) ∷ guest 0 (static dom0 0x7ffff000 0x2000) ∷ []) ≡ Some (codes "/chosen/domU0 static 0: NotRam")
+unfolding first_refused have_common lie_in numbers digits usual_layout
+not_ram_told = refl
+
+-- static ranges fill a guest's memory in their order
+static_lists_swapped : (frame_at (guest 0 (head dom0 0 false false) ∷ guest 0 (static dom0 0x40100000 0x100000) ∷ guest 0 (static dom0 0x40000000 0x100000) ∷ []) 0x40000 ≡ Some 0x40100)
+    × (frame_at (guest 0 (head dom0 0 false false) ∷ guest 0 (static dom0 0x40100000 0x100000) ∷ guest 0 (static dom0 0x40000000 0x100000) ∷ []) 0x40100 ≡ Some 0x40000)
+unfolding all_passed guest_ranges
+static_lists_swapped = (refl, refl)
+
+-- an interrupt that the guest's controller does not have
+irq_past_spis_told : told h2 (guest 0 (item parts.Head dom0 0 (whats.Head 1 0x40000 (Some 32) false true)) ∷ guest 0 (irq 0 0 31) ∷ guest 0 (irq 0 1 32) ∷ []) ≡ Some (codes "domU0:/passthrough/serial@ff010000 interrupt 1: TooHigh")
+unfolding first_refused have_common lie_in numbers digits usual_layout
+irq_past_spis_told = refl
+
+abbrev owned : List ℕ → Described
+owned path = item parts.Shared (path ++ codes "/shm0") 0 (whats.Shared (codes "ring") 0x60000000 0x8000000000 0x200000 true)
+
+-- two owners of one region
+owner_twice_told : told h2 (guest 0 (head dom0 0 false false) ∷ guest 0 (owned dom0) ∷ guest 1 (head dom1 0 false false) ∷ guest 1 (owned dom1) ∷ []) ≡ Some (codes "/chosen/domU1/shm0: OwnerTwice /chosen/domU0/shm0")
+unfolding first_refused have_common lie_in numbers digits usual_layout
+owner_twice_told = refl
+
+-- a partial device tree that was not read
+partial_unread_told : told h2 (guest 0 (head dom0 0 false false) ∷ guest 0 (item parts.Module (dom0 ++ codes "/passthrough") 0 (whats.Module DeviceTree (at 0x2000000 0x209))) ∷ []) ≡ Some (codes "/chosen/domU0/passthrough: PartialUnread")
+unfolding first_refused have_common lie_in numbers digits usual_layout
+partial_unread_told = refl

@@ -1,0 +1,55 @@
+use Rattle.std.proofs.Common.{◌≡◌, ℕ, ◌+◌, Bool, cond, List, [], Some, refl, sym, ap, subst, ◌∙◌}
+use Rattle.std.specs.Prelude.{◌==◌, ◌&&◌}
+use Rattle.std.specs.List.{list_any}
+use Rattle.dl_base.specs.Consecutive.{numbers}
+use Rattle.dl_base.specs.Maps.{AreMapRanges}
+use Rattle.dl_base.specs.declared.ranges.MapRange.{MapRange}
+use Rattle.domain_plan.specs.Entries.{of_guest, is_read, items_of}
+use Rattle.domain_plan.specs.Taken.{Passed, what_of, belongs_to, is_direct, all_passed}
+use Rattle.domain_plan.specs.Reasons.{is_irq}
+use Rattle.domain_plan.specs.GuestMaps.{guest_ranges}
+use Rattle.domain_plan.specs.MapOrder.{in_order, joined_ranges}
+use Rattle.domain_plan.specs.Plans.{said_by, static_memory, banks_filled}
+use Rattle.domain_plan.specs.Giving.{irq_of}
+use Rattle.domain_plan.proofs.MapResult.{IsMapOf, sorted_in_order, map_result}
+use Rattle.domain_plan.proofs.SpiLemmas.{filter_same, irqs_tell}
+use Rattle.domain_plan.proofs.guest_plan.guest_plan.Goals as goal
+
+pub joined_ranges-requires : goal.joined_ranges-requires
+joined_ranges-requires c =
+    let own : List Passed = all_passed [] (of_guest c.args.number (is_read c.args.guest.now.partial) (items_of c.args.guest.now)) in
+    let ranges : c.as_slice.result.now ≡ guest_ranges own c.args.number c.args.drawn.now = c.as_slice.ensures.value ∙ c.in_ok-state.ensures.gathered.ranges in
+    let sorted : c.as_slice-2.result.now ≡ in_order (guest_ranges own c.args.number c.args.drawn.now) = c.as_slice-2.ensures.value ∙ c.in_ok-sorted.ensures ∙ ap in_order ranges in
+    subst AreMapRanges (sym sorted) (sorted_in_order (guest_ranges own c.args.number c.args.drawn.now) c.requires.apart c.requires.low_ranges)
+
+pub returns : goal.returns
+returns c =
+    let own : List Passed = all_passed [] (of_guest c.args.number (is_read c.args.guest.now.partial) (items_of c.args.guest.now)) in
+    let all : List MapRange = guest_ranges own c.args.number c.args.drawn.now in
+    let gives = c.in_ok-state.ensures.gathered in
+    let ranges : c.as_slice.result.now ≡ guest_ranges own c.args.number c.args.drawn.now = c.as_slice.ensures.value ∙ gives.ranges in
+    let sorted : c.as_slice-2.result.now ≡ in_order all = c.as_slice-2.ensures.value ∙ c.in_ok-sorted.ensures ∙ ap in_order ranges in
+    let joined : c.from.result ≡ joined_ranges (in_order all) = c.from.ensures ∙ c.in_ok-ranges.ensures ∙ ap joined_ranges sorted in
+    let made : IsMapOf all c.from.result = subst (IsMapOf all) (sym joined) (map_result all c.requires.apart c.requires.low_ranges) in
+    let irqs : c.as_slice-3.result.now ≡ said_by own c.args.number irq_of = c.as_slice-3.ensures.value ∙ gives.irqs in
+    let pages : ℕ = c.args.guest.now.domain.pages in
+    record {
+      guest_number = refl;
+      path = c.in_ok-copy_bytes.ensures;
+      cpus = refl;
+      console = refl;
+      gic = c.gic_of.ensures;
+      bootargs = c.in_ok-copy_option.ensures;
+      memories = c.in_ok-memories.ensures
+          ∙ ap (λ (b : Bool). cond b c.in_ok-state.field-0.statics (banks_filled (pages + c.in_ok-state.field-0.state.static_pages))) gives.stands.direct
+          ∙ ap (λ (xs : List (ℕ × ℕ)). cond (is_direct own (Some c.args.number)) xs (banks_filled (pages + c.in_ok-state.field-0.state.static_pages))) gives.statics
+          ∙ ap (λ (k : ℕ). cond (is_direct own (Some c.args.number)) (said_by own c.args.number static_memory) (banks_filled (pages + k))) gives.stands.static_pages;
+      sorted = made.sorted;
+      merged = made.merged;
+      mapped = made.mapped;
+      spis = c.in_ok-spis.ensures
+          ∙ filter_same (λ spi. list_any (λ (irq : ℕ). irq == spi) c.as_slice-3.result.now) (λ spi. list_any (λ (one : Passed). belongs_to (Some c.args.number) one && is_irq spi (what_of one)) own) (numbers 0 988)
+          (λ spi. ap (list_any (λ (irq : ℕ). irq == spi)) irqs ∙ irqs_tell c.args.number spi own);
+      shared = gives.shared;
+      ports = gives.ports;
+    }

@@ -1,0 +1,53 @@
+-- That guests are apart: a law over the definitions.
+use Rattle.std.specs.Prelude.{◌≡◌, ℕ, ◌&&◌, Bool, false, IsTrue, List, [], ◌∷◌, Some, Ok, slice_get}
+use Rattle.std.specs.List.{list_any}
+use Rattle.dl_base.specs.Consecutive.{is_in}
+use Rattle.dl_base.specs.Maps.{Target, target_of}
+use Rattle.dl_base.specs.declared.ranges.FrameRange.{FrameRange}
+use Rattle.dl_base.specs.declared.ranges.MapRange.{MapRange}
+use Rattle.dl_base.specs.declared.ranges.Kind.TheVariants.{Shared}
+use Rattle.frame_alloc.specs.Frames.{AreFrames}
+use Rattle.domain_plan.specs.declared.described.Guest.{Guest}
+use Rattle.domain_bindings.specs.declared.host.Host.{Host}
+use Rattle.domain_plan.specs.declared.described.Loaded2.{Loaded2}
+use Rattle.frame_ranges.specs.Ranges.{holds}
+use Rattle.domain_plan.specs.Taken.{Passed, what_of, belongs_to}
+use Rattle.domain_plan.specs.Reasons.{are_one_region}
+use Rattle.domain_plan.specs.Draws.{Heaps}
+use Rattle.domain_plan.specs.GuestMaps.{guest_ranges}
+use Rattle.domain_plan.specs.Plans.{passed_of, outcome}
+
+-- the range maps the page to this target
+abbrev pub IsMappedBy : MapRange → ℕ → Target → Type 0
+IsMappedBy range page target = target_of (range ∷ []) page ≡ Some target
+
+-- no page is given twice differently: what one of the ranges says of a page is what the list says of it
+abbrev pub IsFunction : List MapRange → Type 0
+IsFunction ranges = (index page : ℕ) (range : MapRange) (target : Target) → slice_get ranges index ≡ Some range → IsMappedBy range page target → target_of ranges page ≡ Some target
+
+-- the frame lies in a shared region that both guests name by one id
+abbrev pub is_in_one_region : List Passed → ℕ → ℕ → ℕ → Bool
+is_in_one_region passed one other frame =
+    list_any (λ (mine : Passed). belongs_to (Some one) mine && holds mine.claims frame
+    && list_any (λ (theirs : Passed). belongs_to (Some other) theirs && are_one_region (what_of mine) (what_of theirs) && holds theirs.claims frame) passed) passed
+
+-- a frame of the maps of two guests is shared in both, in a region of one id that both name
+pub record MeetWhereShared (passed : List Passed) (one other : ℕ) (target other_target : Target) : Type 0 where
+  pub here : target.kind ≡ Shared
+  pub there : other_target.kind ≡ Shared
+  pub region : IsTrue (is_in_one_region passed one other target.frame)
+
+-- what a description with this outcome promises of two guests and of the frames that are left
+pub record AreApart (passed : List Passed) (heaps : Heaps) : Type 0 where
+  pub function : (number : ℕ) (drawn : List FrameRange) → slice_get heaps.drawn number ≡ Some drawn → IsFunction (guest_ranges passed number drawn)
+  pub meet : (one other page other_page : ℕ) (drawn other_drawn : List FrameRange) (target other_target : Target) →
+      (one ≡ other → ⊥) → slice_get heaps.drawn one ≡ Some drawn → slice_get heaps.drawn other ≡ Some other_drawn →
+      target_of (guest_ranges passed one drawn) page ≡ Some target → target_of (guest_ranges passed other other_drawn) other_page ≡ Some other_target →
+      target.frame ≡ other_target.frame → MeetWhereShared passed one other target other_target
+  pub left_unmapped : (number page : ℕ) (drawn : List FrameRange) (target : Target) →
+      slice_get heaps.drawn number ≡ Some drawn → target_of (guest_ranges passed number drawn) page ≡ Some target → is_in heaps.left target.frame ≡ false
+  pub left_once : AreFrames heaps.left
+
+-- where no item is refused, guests are apart
+abbrev pub GuestsAreApart : Host → List Loaded2 → List Guest → Type 0
+GuestsAreApart host loads guests = (heaps : Heaps) → outcome host loads guests ≡ Ok heaps → AreApart (passed_of host loads guests) heaps

@@ -1,0 +1,38 @@
+-- For proofs and private contracts alone: what was gathered of a guest's items.
+use Rattle.std.specs.Prelude.{◌≡◌, ℕ, ◌^◌, ◌≤◌, All, List, [], ◌∷◌, Some}
+use Rattle.dl_base.specs.declared.ranges.FrameRange.{FrameRange}
+use Rattle.dl_base.specs.declared.item.What.{What}
+use Rattle.dl_base.specs.declared.item.What.TheVariants as whats
+use Rattle.domain_plan.specs.declared.described.Guest.{Guest}
+use Rattle.domain_plan.specs.declared.giving.Given.{Given}
+use Rattle.dl_base.specs.declared.item.Described.{Described}
+use Rattle.dl_base.specs.Sound.{IsSound}
+use Rattle.domain_plan.specs.Laying.{total, AreLowFrames, AreApart, AreLowRanges}
+use Rattle.domain_plan.specs.Entries.{of_guest, is_read, items_of}
+use Rattle.domain_plan.specs.Taken.{Passed, all_passed}
+use Rattle.domain_plan.specs.GuestMaps.{guest_ranges}
+use Rattle.domain_plan.specs.Plans.{said_by, static_memory, region_of, port_of}
+use Rattle.domain_plan.specs.Standing.{Stands}
+
+-- an interrupt
+abbrev pub irq_of : What → List ℕ
+irq_of (whats.Irq number) = number ∷ []
+irq_of _ = []
+
+-- what these items give a guest that drew these frames
+pub record Gives (number : ℕ) (drawn : List FrameRange) (passed : List Passed) (given : Given) : Type 0 where
+  pub stands : Stands (Some number) passed given.state
+  pub ranges : given.ranges.items ≡ guest_ranges passed number drawn
+  pub statics : given.statics ≡ said_by passed number static_memory
+  pub irqs : given.irqs.items ≡ said_by passed number irq_of
+  pub shared : given.shared ≡ said_by passed number region_of
+  pub ports : given.ports ≡ said_by passed number port_of
+
+-- a guest's items are sound, what it drew is as much as it asked for, and what it is mapped to is apart and low
+pub record IsReady (number : ℕ) (guest : Guest) (drawn : List FrameRange) : Type 0 where
+  pub sound : All (λ (described : Described). IsSound described.what) (items_of guest)
+  pub few : guest.domain.pages ≤ 2 ^ 22
+  pub few_drawn : total drawn ≤ 2 ^ 22
+  pub low : AreLowFrames drawn
+  pub apart : AreApart (guest_ranges (all_passed [] (of_guest number (is_read guest.partial) (items_of guest))) number drawn)
+  pub low_ranges : AreLowRanges (guest_ranges (all_passed [] (of_guest number (is_read guest.partial) (items_of guest))) number drawn)

@@ -1,0 +1,101 @@
+-- The plan of a description, or the first item that is refused.
+use Rattle.std.specs.Prelude.{◌≡◌, ℕ, ◌+◌, ◌&&◌, nat_lt, if◌then◌else◌, List, [], ◌∷◌, map, filter, flat_map, Option, Some, None, Result, Err}
+use Rattle.std.specs.List.{list_any}
+use Rattle.dl_base.specs.Consecutive.{numbers}
+use Rattle.dl_base.specs.Maps.{target_of, AreMapRanges, AreMerged}
+use Rattle.dl_base.specs.declared.ranges.FrameRange.{FrameRange}
+use Rattle.dl_base.specs.declared.item.What.{What}
+use Rattle.dl_base.specs.declared.item.What.TheVariants as whats
+use Rattle.domain_plan.specs.declared.described.Guest.{Guest}
+use Rattle.domain_bindings.specs.declared.host.Host.{Host}
+use Rattle.domain_plan.specs.declared.described.Loaded2.{Loaded2}
+use Rattle.domain_plan.specs.declared.described.PartialState.{PartialState}
+use Rattle.domain_plan.specs.declared.described.PartialState.TheVariants as states
+use Rattle.domain_plan.specs.declared.planned.GuestPlan.{GuestPlan}
+use Rattle.frame_ranges.specs.Ranges.{touched}
+use Rattle.domain_plan.specs.Entries.{joined}
+use Rattle.domain_plan.specs.Taken.{Passed, what_of, belongs_to, is_direct, pages_before, bank_pages, all_passed}
+use Rattle.domain_plan.specs.Reasons.{is_irq}
+use Rattle.domain_plan.specs.Refusals.{Refusal, first_refused}
+use Rattle.domain_plan.specs.Draws.{Heaps, free_frames, heaps}
+use Rattle.domain_plan.specs.GuestMaps.{guest_ranges}
+
+-- all items with what they take
+abbrev pub passed_of : Host → List Loaded2 → List Guest → List Passed
+passed_of host loads guests = all_passed [] (joined host loads guests)
+
+-- a refusal, or else what comes after it
+abbrev pub unless_refused : Option Refusal → Result Heaps Refusal → Result Heaps Refusal
+unless_refused (Some refusal) later = Err refusal
+unless_refused None later = later
+
+-- the first refused item with its first reason, the requests for memory coming last; or what the guests drew and what is left
+unfoldable pub outcome : Host → List Loaded2 → List Guest → Result Heaps Refusal
+outcome host loads guests =
+    unless_refused (first_refused host.ram [] (joined host loads guests))
+    (heaps guests (free_frames host.ram (passed_of host loads guests)))
+
+-- what the items of a guest say, one by one
+abbrev pub said_by : List Passed → ℕ → {A : Type 0} → (What → List A) → List A
+said_by passed number says = flat_map (λ (one : Passed). if belongs_to (Some number) one then says (what_of one) else []) passed
+
+-- a range of pages as its first page and how many there are
+abbrev pub as_pair : FrameRange → ℕ × ℕ
+as_pair range = (range.first, range.count)
+
+-- the pages of a static range
+abbrev pub static_memory : What → List (ℕ × ℕ)
+static_memory (whats.Static at) = as_pair (touched at) ∷ []
+static_memory _ = []
+
+-- the banks that a guest's memory fills
+abbrev pub banks_filled : ℕ → List (ℕ × ℕ)
+banks_filled count = map as_pair (filter (λ (range : FrameRange). nat_lt 0 range.count) (bank_pages 0 count))
+
+-- a guest's memory in pages: its banks, or its static ranges in order where it is direct-mapped
+abbrev pub memories_of : List Passed → ℕ → Guest → List (ℕ × ℕ)
+memories_of passed number guest =
+    if is_direct passed (Some number) then said_by passed number static_memory
+    else banks_filled (guest.domain.pages + pages_before passed (Some number))
+
+-- the interrupts of a guest, ascending, each once
+abbrev pub spis_of : List Passed → ℕ → List ℕ
+spis_of passed number =
+    filter (λ spi. list_any (λ (one : Passed). belongs_to (Some number) one && is_irq spi (what_of one)) passed) (numbers 0 988)
+
+-- a region by its id and its pages
+abbrev pub region_of : What → List (List ℕ × ℕ × ℕ)
+region_of (whats.Shared id host guest size owner) = (id, (touched (record { base = guest; size = size })).first, (touched (record { base = guest; size = size })).count) ∷ []
+region_of _ = []
+
+-- a port with its peer and the peer's port
+abbrev pub port_of : What → List (ℕ × ℕ × ℕ)
+port_of (whats.Port port peer peer_port) = (port, peer, peer_port) ∷ []
+port_of _ = []
+
+-- the phandle of a guest's interrupt controller
+abbrev pub gic_of : PartialState → ℕ
+gic_of (states.Read partial) = partial.gic
+gic_of _ = 65000
+
+-- the plan of a guest that drew these frames
+pub record IsGuestPlan (passed : List Passed) (number : ℕ) (guest : Guest) (drawn : List FrameRange) (plan : GuestPlan) : Type 0 where
+  pub guest_number : plan.number ≡ guest.domain.number
+  pub path : plan.path ≡ guest.domain.path
+  pub cpus : plan.cpus ≡ guest.domain.cpus
+  pub console : plan.console ≡ guest.domain.console
+  pub gic : plan.gic ≡ gic_of guest.partial
+  pub bootargs : plan.bootargs ≡ guest.domain.bootargs
+  pub memories : plan.memories ≡ memories_of passed number guest
+  pub sorted : AreMapRanges plan.ranges
+  pub merged : AreMerged plan.ranges
+  pub mapped : (page : ℕ) → target_of plan.ranges page ≡ target_of (guest_ranges passed number drawn) page
+  pub spis : plan.spis ≡ spis_of passed number
+  pub shared : plan.shared ≡ said_by passed number region_of
+  pub ports : plan.ports ≡ said_by passed number port_of
+
+-- one plan for each guest, in their order, the first of which has this number
+abbrev pub AreGuestPlans : List Passed → ℕ → List Guest → List (List FrameRange) → List GuestPlan → Type 0
+AreGuestPlans passed number (guest ∷ guests) (drawn ∷ more) (plan ∷ plans) = IsGuestPlan passed number guest drawn plan × AreGuestPlans passed (number + 1) guests more plans
+AreGuestPlans passed number [] [] [] = Unit {0}
+AreGuestPlans passed number _ _ _ = ⊥

@@ -1,0 +1,251 @@
+// What the items of a guest give it.
+ghost use Rattle.std.specs.Prelude.{◌≡◌, ℕ, ◌+◌, ◌^◌, ◌≤◌, ◌<◌, List, [], ◌∷◌, ◌++◌, map, All, Option, None, Some, IfOk, OnOk};
+ghost use Rattle.dl_base.specs.Sound.{IsSound};
+ghost use Rattle.domain_plan.specs.Entries.{of_guest, is_read, items_of};
+ghost use Rattle.domain_plan.specs.Taken.{Passed, passing, all_passed};
+ghost use Rattle.domain_plan.specs.GuestMaps.{onto, laid};
+ghost use Rattle.domain_plan.specs.Plans.{static_memory, region_of, port_of};
+ghost use Rattle.domain_plan.specs.Standing.{Stands, entry_of};
+ghost use Rattle.domain_plan.specs.Giving.{irq_of, Gives};
+ghost use Rattle.domain_plan.specs.Laying.{total, AreLowFrames, maps_by};
+
+use crate::checking::{is_read, partial_items};
+use crate::described::Guest;
+use crate::passing::takes_of;
+use crate::state::{Owner, State};
+use crate::takes::BANK_SIZE;
+use dl_base::{Bytes, Described, FrameRange, Kind, List, MapRange, What};
+use frame_ranges::{touched, touched_from};
+use std::alloc::{AllocError, Global};
+use std::cmp::min;
+
+/// What the items of a guest that were passed give it.
+#[derive(Drop)]
+pub(crate) struct Given {
+    pub(crate) state: State,
+    pub(crate) ranges: Vec<MapRange>,
+    pub(crate) statics: List<(u64, u64)>,
+    pub(crate) irqs: Vec<u32>,
+    pub(crate) shared: List<(Bytes, u64, u64)>,
+    pub(crate) ports: List<(u32, u64, u32)>,
+}
+
+/// Adds the pages of a static range.
+fn push_static(statics: &mut List<(u64, u64)>, what: &What) -> Result<(), AllocError>
+    ensures { OnOk result (statics.new ≡ statics.old ++ static_memory what.now) }
+{
+    match what {
+        What::Static { at } => {
+            let range = touched(*at);
+            statics.push((range.first, range.count))?;
+            Ok(())
+        }
+        _ => Ok(()),
+    }
+}
+
+/// Adds the number of an interrupt.
+fn push_irq(irqs: &mut Vec<u32>, what: &What) -> Result<(), AllocError>
+    ensures { OnOk result (irqs.new.items ≡ irqs.old.items ++ irq_of what.now) }
+{
+    match what {
+        What::Irq { number } => {
+            irqs.push(*number)?;
+            Ok(())
+        }
+        _ => Ok(()),
+    }
+}
+
+/// Adds a shared region.
+fn push_region(
+    alloc: Global,
+    shared: &mut List<(Bytes, u64, u64)>,
+    what: &What,
+) -> Result<(), AllocError>
+    ensures { OnOk result (shared.new ≡ shared.old ++ region_of what.now) }
+{
+    match what {
+        What::Shared {
+            id,
+            guest,
+            size,
+            ..
+        } => {
+            let mut copy = Bytes::new(alloc);
+            copy.append(id.as_slice())?;
+            let range = touched_from(*guest, *size);
+            shared.push((copy, range.first, range.count))?;
+            Ok(())
+        }
+        _ => Ok(()),
+    }
+}
+
+/// Adds a port.
+fn push_port(ports: &mut List<(u32, u64, u32)>, what: &What) -> Result<(), AllocError>
+    ensures { OnOk result (ports.new ≡ ports.old ++ port_of what.now) }
+{
+    match what {
+        What::Port {
+            port,
+            peer,
+            peer_port,
+        } => {
+            ports.push((*port, *peer, *peer_port))?;
+            Ok(())
+        }
+        _ => Ok(()),
+    }
+}
+
+/// Adds ranges of pages that go to consecutive frames.
+fn push_onto(
+    ranges: &mut Vec<MapRange>,
+    kind: Kind,
+    frame: u64,
+    pages: &[FrameRange],
+) -> Result<(), AllocError>
+    requires { frame + total pages.now ≤ 2 ^ 60 }
+    ensures { OnOk result (ranges.new.items ≡ ranges.old.items ++ onto kind frame pages.now) }
+{
+    let mut at = frame;
+    for one in pages {
+        ranges.push(MapRange {
+            page: one.first,
+            first: at,
+            count: one.count,
+            kind,
+        })?;
+        at += one.count;
+    }
+    Ok(())
+}
+
+/// Adds what an item maps.
+fn push_maps(
+    ranges: &mut Vec<MapRange>,
+    what: &What,
+    pages: &[FrameRange],
+) -> Result<(), AllocError>
+    requires { total pages.now ≤ 2 ^ 28 }
+    ensures { OnOk result (ranges.new.items ≡ ranges.old.items ++ maps_by what.now pages.now) }
+{
+    match what {
+        What::Static { at } => push_onto(ranges, Kind::Ram, at.base / 4096, pages),
+        What::Range { host, .. } => push_onto(ranges, Kind::Device, *host / 4096, pages),
+        What::Shared { host, .. } => push_onto(ranges, Kind::Shared, *host / 4096, pages),
+        _ => Ok(()),
+    }
+}
+
+/// Adds a run of frames as a guest's memory from its `k`-th page on.
+fn lay_run(ranges: &mut Vec<MapRange>, k: u64, frames: FrameRange) -> Result<(), AllocError>
+    requires few { k + frames.count ≤ 2 ^ 22 }
+    requires low { 0 < frames.count → frames.first + frames.count ≤ 2 ^ 28 }
+    ensures { OnOk result (ranges.new.items ≡ ranges.old.items ++ laid k (frames ∷ [])) }
+{
+    let low = min(frames.count, BANK_SIZE.saturating_sub(k));
+    ranges.push(MapRange {
+        page: 0x40000 + k,
+        first: frames.first,
+        count: low,
+        kind: Kind::Ram,
+    })?;
+    ranges.push(MapRange {
+        page: 0x200000 + (k + low).saturating_sub(BANK_SIZE),
+        first: frames.first + low,
+        count: frames.count - low,
+        kind: Kind::Ram,
+    })?;
+    Ok(())
+}
+
+/// Adds frames that were drawn as a guest's memory.
+fn lay(ranges: &mut Vec<MapRange>, drawn: &[FrameRange]) -> Result<(), AllocError>
+    requires few { total drawn.now ≤ 2 ^ 22 }
+    requires low { AreLowFrames drawn.now }
+    ensures { OnOk result (ranges.new.items ≡ ranges.old.items ++ laid 0 drawn.now) }
+{
+    let mut k = 0;
+    for frames in drawn {
+        lay_run(ranges, k, *frames)?;
+        k += frames.count;
+    }
+    Ok(())
+}
+
+/// Passes one item of a guest.
+fn give_item(
+    given: &mut Given,
+    alloc: Global,
+    owner: Owner,
+    described: &Described,
+) -> Result<(), AllocError>
+    requires small { given.old.state.static_pages ≤ 2 ^ 28 }
+    requires sound { IsSound described.now.what }
+    requires stands { (before : List Passed) × Stands owner.guest before given.old.state }
+    ensures small { OnOk result (given.new.state.static_pages ≤ 2 ^ 28) }
+    ensures given { OnOk result ((number : ℕ) → (drawn : List FrameRange) → (before : List Passed) → owner.guest ≡ Some number → Gives number drawn before given.old → Gives number drawn (before ++ passing before (entry_of owner described.now) ∷ []) given.new) }
+{
+    let takes = takes_of(&given.state, alloc, described)?;
+    push_maps(&mut given.ranges, &described.what, takes.pages.as_slice())?;
+    push_static(&mut given.statics, &described.what)?;
+    push_irq(&mut given.irqs, &described.what)?;
+    push_region(alloc, &mut given.shared, &described.what)?;
+    push_port(&mut given.ports, &described.what)?;
+    given.state.add(alloc, owner, described, &takes)?;
+    Ok(())
+}
+
+/// Passes items of a guest in their order.
+fn give_items(
+    given: &mut Given,
+    alloc: Global,
+    owner: Owner,
+    items: &[Described],
+) -> Result<(), AllocError>
+    requires small { given.old.state.static_pages ≤ 2 ^ 28 }
+    requires sound { All (λ described. IsSound described.what) items.now }
+    requires stands { (number : ℕ) × (drawn : List FrameRange) × (before : List Passed) × (owner.guest ≡ Some number) × Gives number drawn before given.old }
+    ensures small { OnOk result (given.new.state.static_pages ≤ 2 ^ 28) }
+    ensures given { OnOk result ((number : ℕ) → (drawn : List FrameRange) → (before : List Passed) → owner.guest ≡ Some number → Gives number drawn before given.old → Gives number drawn (all_passed before (map (entry_of owner) items.now)) given.new) }
+{
+    for described in items {
+        give_item(given, alloc, owner, described)?;
+    }
+    Ok(())
+}
+
+/// What the items of a guest and the frames that it drew give it.
+pub(crate) fn gather(
+    alloc: Global,
+    number: u64,
+    guest: &Guest,
+    drawn: &[FrameRange],
+) -> Result<Given, AllocError>
+    requires few { total drawn.now ≤ 2 ^ 22 }
+    requires low { AreLowFrames drawn.now }
+    requires sound { All (λ described. IsSound described.what) (items_of guest.now) }
+    ensures small { IfOk result (λ given. given.state.static_pages ≤ 2 ^ 28) }
+    ensures gathered { IfOk result (λ given. Gives number drawn.now (all_passed [] (of_guest number (is_read guest.now.partial) (items_of guest.now))) given) }
+{
+    let mut given = Given {
+        state: State::new(alloc),
+        ranges: Vec::new(alloc),
+        statics: List::new(alloc),
+        irqs: Vec::new(alloc),
+        shared: List::new(alloc),
+        ports: List::new(alloc),
+    };
+    lay(&mut given.ranges, drawn)?;
+    let owner = Owner {
+        guest: Some(number),
+        partial_read: is_read(&guest.partial),
+    };
+    give_items(&mut given, alloc, owner, guest.domain.items.as_slice())?;
+    give_items(&mut given, alloc, owner, partial_items(&guest.partial))?;
+    give_items(&mut given, alloc, owner, guest.shared.as_slice())?;
+    give_items(&mut given, alloc, owner, guest.ports.as_slice())?;
+    Ok(given)
+}

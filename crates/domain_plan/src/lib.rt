@@ -1,0 +1,23 @@
+//! The first described item that is refused, or every guest's map and the frames that are left.
+#![tactic(auto)]
+
+mod checking;
+mod described;
+mod draws;
+mod earliest;
+mod giving;
+mod guest_plan;
+mod irqs;
+pub mod laws;
+mod ordering;
+mod passing;
+mod planned;
+mod planning;
+mod reasons;
+mod regions;
+mod state;
+mod takes;
+
+pub use described::{Guest, Loaded2, PartialState};
+pub use planned::{GuestPlan, Plan, PlanFault};
+pub use planning::plan;

@@ -1,0 +1,331 @@
+// Passing items one by one.
+ghost use Rattle.std.specs.Prelude.{◌≡◌, ℕ, ◌+◌, ◌^◌, ◌≤◌, ◌++◌, ◌||◌, ◌&&◌, min, List, [], ◌∷◌, map, is_some, All, Option, None, Some, IfOk, OnOk, IfErr};
+ghost use Rattle.frame_alloc.specs.Frames.{AreFrameRanges};
+ghost use Rattle.domain_plan.specs.Taken.{Passed, passing, all_passed, claims_of, pages_of, says_direct, static_pages, is_range};
+ghost use Rattle.domain_plan.specs.Refusals.{why, first_refused};
+ghost use Rattle.domain_plan.specs.Standing.{Stands, IsAdded, taken_at, load_in, entry_of, in_guest, has_triple, region_in, is_past, first_other, is_irq_of_other};
+ghost use Rattle.std.specs.Prelude.{if◌then◌else◌};
+ghost use Rattle.std.specs.Option.{option_or};
+ghost use Rattle.domain_plan.specs.Reasons.{is_past_spis, has_console};
+
+use crate::irqs::has_taker;
+use crate::planned::PlanFault;
+use crate::reasons::Takes;
+use crate::state::{Owner, Region, State, Taken, Taker, Triple};
+use crate::takes::has_triple;
+use dl_base::{BaseSize, Bytes, Described, FrameRange, Item, What, Why};
+use frame_ranges::touched;
+use std::alloc::{AllocError, Global};
+use std::cmp::min;
+
+/// The most pages that are counted.
+const PAGE_LIMIT: u64 = 1 << 28;
+
+/// Want of memory is the fault Memory.
+impl From<AllocError> for PlanFault {
+    ghost use Rattle.domain_plan.specs.declared.planned.PlanFault.{PlanFault};
+
+    ghost from_gives = { λ _ fault. fault ≡ PlanFault.Memory };
+
+    fn from(_error: AllocError) -> PlanFault {
+        PlanFault::Memory
+    }
+}
+
+/// Adds ranges that the item at a place takes.
+fn push_taken(taken: &mut Vec<Taken>, place: usize, ranges: &[FrameRange]) -> Result<(), AllocError>
+    ensures { OnOk result (taken.new.items ≡ taken.old.items ++ map (taken_at place) ranges.now) }
+{
+    for range in ranges {
+        taken.push(Taken {
+            range: *range,
+            item: place,
+        })?;
+    }
+    Ok(())
+}
+
+/// Adds where a file was loaded.
+fn push_load(loads: &mut Vec<BaseSize>, what: &What) -> Result<(), AllocError>
+    ensures { OnOk result (loads.new.items ≡ loads.old.items ++ load_in what.now) }
+{
+    match what {
+        What::Load { at } => {
+            loads.push(*at)?;
+            Ok(())
+        }
+        _ => Ok(()),
+    }
+}
+
+/// Adds the numbers of a guest's device range, where they are new.
+fn push_triple(triples: &mut Vec<Triple>, owner: Owner, what: &What) -> Result<(), AllocError>
+    ensures { OnOk result ((host size page : ℕ) → has_triple host size page triples.new.items ≡ (has_triple host size page triples.old.items || (is_some owner.guest && is_range host size page what.now))) }
+{
+    if owner.guest.is_none() {
+        return Ok(());
+    }
+    match what {
+        What::Range { host, size, guest } => {
+            if has_triple(triples.as_slice(), *host, *size, *guest) {
+                return Ok(());
+            }
+            triples.push(Triple {
+                host: *host,
+                size: *size,
+                guest: *guest,
+            })?;
+            Ok(())
+        }
+        _ => Ok(()),
+    }
+}
+
+/// Adds a region that an item describes.
+fn push_region(
+    regions: &mut Vec<Region>,
+    alloc: Global,
+    place: usize,
+    owner: Owner,
+    described: &Described,
+) -> Result<(), AllocError>
+    ensures { OnOk result (regions.new.items ≡ regions.old.items ++ region_in described.now.item place owner.guest described.now.what) }
+{
+    match &described.what {
+        What::Shared {
+            id,
+            host,
+            size,
+            owner: owns,
+            ..
+        } => {
+            let item = described.item.copy(alloc)?;
+            let mut own_id = Bytes::new(alloc);
+            own_id.append(id.as_slice())?;
+            regions.push(Region {
+                item,
+                place,
+                guest: owner.guest,
+                id: own_id,
+                host: *host,
+                size: *size,
+                owner: *owns,
+            })?;
+            Ok(())
+        }
+        _ => Ok(()),
+    }
+}
+
+/// The least number of shared interrupts that a guest's items give it.
+fn least_spis(spis: Option<u32>, owner: Owner, what: &What) -> Option<u32>
+    ensures { (number : ℕ) → is_past number result ≡ (is_past number spis || (is_some owner.guest && is_past_spis number what.now)) }
+{
+    if owner.guest.is_none() {
+        return spis;
+    }
+    match what {
+        What::Head { spis: own, .. } => match *own {
+            None => spis,
+            Some(own) => match spis {
+                None => Some(own),
+                Some(one) => Some(min(one, own)),
+            },
+        },
+        _ => spis,
+    }
+}
+
+/// Keeps the first item that gives the guest a console.
+fn set_console(
+    console: &mut Option<Item>,
+    alloc: Global,
+    owner: Owner,
+    described: &Described,
+) -> Result<(), AllocError>
+    ensures { OnOk result (console.new ≡ option_or console.old (if is_some owner.guest && has_console described.now.what then Some described.now.item else None)) }
+{
+    if console.is_some() {
+        return Ok(());
+    }
+    if owner.guest.is_none() {
+        return Ok(());
+    }
+    match &described.what {
+        What::Head { console: has, .. } => {
+            if *has {
+                *console = Some(described.item.copy(alloc)?);
+            }
+            Ok(())
+        }
+        _ => Ok(()),
+    }
+}
+
+/// Adds an interrupt, where the guest has none of its number.
+fn push_taker(
+    takers: &mut Vec<Taker>,
+    alloc: Global,
+    owner: Owner,
+    described: &Described,
+) -> Result<(), AllocError>
+    ensures { OnOk result ((number : ℕ) → (other : Option ℕ) → first_other number other takers.new.items ≡ option_or (first_other number other takers.old.items) (if is_irq_of_other number other owner.guest described.now.what then Some described.now.item else None)) }
+{
+    match owner.guest {
+        None => Ok(()),
+        Some(guest) => match &described.what {
+            What::Irq { number } => {
+                if has_taker(takers.as_slice(), *number, guest) {
+                    return Ok(());
+                }
+                let item = described.item.copy(alloc)?;
+                takers.push(Taker {
+                    item,
+                    guest,
+                    number: *number,
+                })?;
+                Ok(())
+            }
+            _ => Ok(()),
+        },
+    }
+}
+
+/// Whether an item says that its guest is direct-mapped.
+fn says_direct(owner: Owner, what: &What) -> bool
+    ensures { result ≡ (is_some owner.guest && says_direct what.now) }
+{
+    match what {
+        What::Head { direct, .. } => owner.guest.is_some() && *direct,
+        _ => false,
+    }
+}
+
+/// How many pages of static memory an item gives its guest.
+fn static_pages(owner: Owner, what: &What) -> u64
+    ensures pages { result ≡ in_guest owner.guest (static_pages what.now) 0 }
+    ensures low { result ≤ 2 ^ 28 }
+{
+    if owner.guest.is_none() {
+        return 0;
+    }
+    match what {
+        What::Static { at } => touched(*at).count,
+        _ => 0,
+    }
+}
+
+/// The pages that an item fills, where it is a guest's.
+fn pages_in_guest(owner: Owner, pages: &[FrameRange]) -> &[FrameRange]
+    ensures { result.now ≡ in_guest owner.guest pages.now [] }
+{
+    if owner.guest.is_some() { pages } else { &[] }
+}
+
+impl State {
+    /// Adds an item with what it takes. After want of memory a part of it may have been added.
+    pub(crate) fn add(
+        &mut self,
+        alloc: Global,
+        owner: Owner,
+        described: &Described,
+        takes: &Takes,
+    ) -> Result<(), AllocError>
+        requires { self.old.static_pages ≤ 2 ^ 28 }
+        ensures added { OnOk result (IsAdded owner described.now takes.now self.old self.new) }
+        ensures small { OnOk result (self.new.static_pages ≤ 2 ^ 28) }
+    {
+        let place = self.items.len();
+        self.items.push(described.item.copy(alloc)?)?;
+        push_taken(&mut self.claims, place, takes.claims.as_slice())?;
+        push_taken(
+            &mut self.pages,
+            place,
+            pages_in_guest(owner, takes.pages.as_slice()),
+        )?;
+        push_load(&mut self.loads, &described.what)?;
+        push_triple(&mut self.triples, owner, &described.what)?;
+        push_region(&mut self.regions, alloc, place, owner, described)?;
+        self.spis = least_spis(self.spis, owner, &described.what);
+        set_console(&mut self.console, alloc, owner, described)?;
+        push_taker(&mut self.takers, alloc, owner, described)?;
+        self.direct = self.direct | says_direct(owner, &described.what);
+        self.static_pages = min(
+            self.static_pages + static_pages(owner, &described.what),
+            PAGE_LIMIT,
+        );
+        Ok(())
+    }
+}
+
+/// What an item takes.
+pub(crate) fn takes_of(
+    state: &State,
+    alloc: Global,
+    described: &Described,
+) -> Result<Takes, AllocError>
+    requires { state.now.static_pages ≤ 2 ^ 28 }
+    ensures low { IfOk result (λ takes. All (λ one. one.first + one.count ≤ 2 ^ 28) takes.claims.items) }
+    ensures claims { IfOk result (λ takes. (owner : Owner) → (before : List Passed) → Stands owner.guest before state.now → takes.claims.items ≡ claims_of before (entry_of owner described.now)) }
+    ensures pages { IfOk result (λ takes. (owner : Owner) → (before : List Passed) → Stands owner.guest before state.now → takes.pages.items ≡ pages_of before (entry_of owner described.now)) }
+{
+    let claims = state.claims_of(alloc, described)?;
+    let pages = state.pages_of(alloc, described)?;
+    Ok(Takes { claims, pages })
+}
+
+/// Passes one item, or names the first reason against it.
+fn check_item(
+    state: &mut State,
+    alloc: Global,
+    ram: &[FrameRange],
+    owner: Owner,
+    described: &Described,
+) -> Result<(), PlanFault>
+    requires sorted { AreFrameRanges ram.now }
+    requires small { state.old.static_pages ≤ 2 ^ 28 }
+    ensures small { OnOk result (state.new.static_pages ≤ 2 ^ 28) }
+    ensures passed { OnOk result ((before : List Passed) → Stands owner.guest before state.old → Stands owner.guest (before ++ passing before (entry_of owner described.now) ∷ []) state.new) }
+    ensures clear { OnOk result ((before : List Passed) → Stands owner.guest before state.old → why ram.now before (entry_of owner described.now) ≡ None) }
+    ensures refused { IfErr result (λ fault. (before : List Passed) → Stands owner.guest before state.old → (item : Item) → (reason : Why) →
+        fault ≡ PlanFault.Refused item reason → (item ≡ described.now.item) × (why ram.now before (entry_of owner described.now) ≡ Some reason)) }
+{
+    if let Some(own) = &described.own {
+        let item = described.item.copy(alloc)?;
+        let reason = own.copy(alloc)?;
+        return Err(PlanFault::Refused(item, reason));
+    }
+    let takes = takes_of(state, alloc, described)?;
+    match state.reason_against(alloc, ram, owner, described, &takes)? {
+        Some(reason) => {
+            let item = described.item.copy(alloc)?;
+            Err(PlanFault::Refused(item, reason))
+        }
+        None => {
+            state.add(alloc, owner, described, &takes)?;
+            Ok(())
+        }
+    }
+}
+
+/// Passes items of one owner in their order, or names the first of them that has a reason against it.
+pub(crate) fn check_items(
+    state: &mut State,
+    alloc: Global,
+    ram: &[FrameRange],
+    owner: Owner,
+    items: &[Described],
+) -> Result<(), PlanFault>
+    requires sorted { AreFrameRanges ram.now }
+    requires small { state.old.static_pages ≤ 2 ^ 28 }
+    ensures small { OnOk result (state.new.static_pages ≤ 2 ^ 28) }
+    ensures passed { OnOk result ((before : List Passed) → Stands owner.guest before state.old → Stands owner.guest (all_passed before (map (entry_of owner) items.now)) state.new) }
+    ensures clear { OnOk result ((before : List Passed) → Stands owner.guest before state.old → first_refused ram.now before (map (entry_of owner) items.now) ≡ None) }
+    ensures refused { IfErr result (λ fault. (before : List Passed) → Stands owner.guest before state.old → (item : Item) → (reason : Why) →
+        fault ≡ PlanFault.Refused item reason → first_refused ram.now before (map (entry_of owner) items.now) ≡ Some (item, reason)) }
+{
+    for described in items {
+        check_item(state, alloc, ram, owner, described)?;
+    }
+    Ok(())
+}

@@ -1,0 +1,66 @@
+// The plan of a description.
+ghost use Rattle.std.specs.Prelude.{◌≡◌, ◌+◌, ◌^◌, ◌≤◌, ℕ, All, List, [], None, map, Ok, Err, IfOk, IfErr};
+ghost use Rattle.frame_alloc.specs.Frames.{AreFrames};
+ghost use Rattle.domain_plan.specs.Arguments.{AreRead};
+ghost use Rattle.domain_plan.specs.Taken.{Passed};
+ghost use Rattle.domain_plan.specs.Entries.{joined};
+ghost use Rattle.domain_plan.specs.Refusals.{first_refused};
+ghost use Rattle.domain_plan.specs.Draws.{Heaps, free_frames, heaps};
+ghost use Rattle.domain_plan.specs.Plans.{passed_of, outcome, AreGuestPlans};
+
+use crate::checking::check_all;
+use crate::described::{Guest, Loaded2};
+use crate::draws::{draw_for_guests, free_pool};
+use crate::guest_plan::guest_plan;
+use crate::planned::{GuestPlan, Plan, PlanFault};
+use dl_base::{FrameRange, List};
+use domain_bindings::Host;
+use std::alloc::{AllocError, Global};
+
+/// What every guest is to be given, by its items and by what it drew.
+fn guest_plans(
+    alloc: Global,
+    host: &Host,
+    loads: &List<Loaded2>,
+    guests: &List<Guest>,
+    drawn: &List<Vec<FrameRange>>,
+) -> Result<List<GuestPlan>, AllocError>
+    requires read { AreRead host.now loads.now guests.now }
+    requires clear { first_refused host.now.ram [] (joined host.now loads.now guests.now) ≡ None }
+    requires drawn { (left : List ℕ) × (heaps guests.now (free_frames host.now.ram (passed_of host.now loads.now guests.now)) ≡ Ok (record { drawn = map (λ frames. frames.items) drawn.now; left = left })) }
+    ensures { IfOk result (λ plans. AreGuestPlans (passed_of host.now loads.now guests.now) 0 guests.now (map (λ frames. frames.items) drawn.now) plans) }
+{
+    let _ = host;
+    let _ = loads;
+    let guests = guests.as_slice();
+    let drawn = drawn.as_slice();
+    let mut plans = List::new(alloc);
+    for i in 0..guests.len() {
+        let plan = guest_plan(alloc, i as u64, &guests[i], drawn[i].as_slice())?;
+        plans.push(plan)?;
+    }
+    Ok(plans)
+}
+
+/// What every guest is to be given, and the frames that are left. Refused comes exactly where an item of the host, a
+/// load, a module of dom0, an item of a guest or a guest's request for memory has a reason against it; it names the first
+/// such item in that order, with its first reason. Memory is want of memory. The arguments are as the readers give them.
+pub fn plan(
+    alloc: Global,
+    host: &Host,
+    loads: &List<Loaded2>,
+    guests: &List<Guest>,
+) -> Result<Plan, PlanFault>
+    requires { AreRead host.now loads.now guests.now }
+    ensures ascending { IfOk result (λ plan. AreFrames plan.pool.free) }
+    ensures planned { IfOk result (λ plan. (heaps : Heaps) × (outcome host.now loads.now guests.now ≡ Ok heaps)
+        × (plan.pool.free ≡ heaps.left) × AreGuestPlans (passed_of host.now loads.now guests.now) 0 guests.now heaps.drawn plan.guests) }
+    ensures refused { IfErr result (λ fault. (item : _) → (why : _) → fault ≡ PlanFault.Refused item why → outcome host.now loads.now guests.now ≡ Err (item, why)) }
+{
+    let state = check_all(alloc, host, loads, guests)?;
+    let mut pool = free_pool(alloc, &host.ram, state.claims.as_slice())?;
+    let drawn = draw_for_guests(alloc, &mut pool, guests.as_slice())?;
+    let guests = guest_plans(alloc, host, loads, guests, &drawn)?;
+    let _ = pool.free_frames();
+    Ok(Plan { guests, pool })
+}

@@ -1,0 +1,187 @@
+// The reasons against an item that need the host's memory or the items before it.
+ghost use Rattle.std.specs.Prelude.{◌≡◌, ℕ, ◌+◌, ◌^◌, ◌≤◌, List, [], ◌∷◌, All, Option, IfOk, ◌&&◌, not, is_some};
+ghost use Rattle.std.specs.Option.{option_or};
+ghost use Rattle.dl_base.specs.declared.why.Why.TheVariants as whys;
+ghost use Rattle.frame_alloc.specs.Frames.{AreFrameRanges};
+ghost use Rattle.frame_ranges.specs.Ranges.{have_common, lie_in};
+ghost use Rattle.domain_plan.specs.Taken.{Passed};
+ghost use Rattle.dl_base.specs.Reasons.{where_so};
+ghost use Rattle.domain_plan.specs.Reasons.{naming_first, layout, layout_pages, is_device_tree};
+ghost use Rattle.domain_plan.specs.Refusals.{cross_reasons, first_there};
+ghost use Rattle.domain_plan.specs.Standing.{Stands, claims_taken, pages_taken, entry_of, mine_of, overlap_in};
+
+use crate::state::{Owner, State};
+use dl_base::{Bytes, Described, FrameRange, Item, ModuleKind, Part, What, Why};
+use frame_ranges::{lies_in, meets_any};
+use std::alloc::{AllocError, Global};
+
+/// The frames and pages that an item takes.
+#[derive(Drop)]
+pub(crate) struct Takes {
+    pub(crate) claims: Vec<FrameRange>,
+    pub(crate) pages: Vec<FrameRange>,
+}
+
+/// Whether every frame of the ranges is one of the host's memory.
+pub(crate) fn lie_in(ram: &[FrameRange], ranges: &[FrameRange]) -> bool
+    requires sorted { AreFrameRanges ram.now }
+    requires low { All (λ range. range.first + range.count ≤ 2 ^ 28) ranges.now }
+    ensures { result ≡ lie_in ram.now ranges.now }
+{
+    for range in ranges {
+        if !lies_in(ram, *range) {
+            return false;
+        }
+    }
+    true
+}
+
+/// Whether the ranges have a page of the areas that no guest may fill: distributor, redistributors, console and grant
+/// table of the usual layout.
+fn meet_layout(pages: &[FrameRange]) -> bool
+    ensures { result ≡ have_common layout_pages pages.now }
+{
+    let distributor = FrameRange {
+        first: 0x3001,
+        count: 0x10,
+    };
+    let redistributors = FrameRange {
+        first: 0x3020,
+        count: 0x1000,
+    };
+    let console = FrameRange {
+        first: 0x22000,
+        count: 1,
+    };
+    let grant_table = FrameRange {
+        first: 0x38000,
+        count: 0x1000,
+    };
+    if meets_any(distributor, pages) {
+        return true;
+    }
+    if meets_any(redistributors, pages) {
+        return true;
+    }
+    if meets_any(console, pages) {
+        return true;
+    }
+    meets_any(grant_table, pages)
+}
+
+/// PartialUnread where a guest's module is a device tree, and no partial device tree was read for the guest.
+fn partial_unread(owner: Owner, kind: ModuleKind) -> Option<Why>
+    ensures { result ≡ where_so (is_some owner.guest && is_device_tree kind && not owner.partial_read) whys.PartialUnread }
+{
+    if owner.guest.is_some() {
+        if kind == ModuleKind::DeviceTree {
+            if !owner.partial_read {
+                return Some(Why::PartialUnread);
+            }
+        }
+    }
+    None
+}
+
+impl State {
+    /// The earliest item that claims a frame of these.
+    fn host_overlap(&self, alloc: Global, claims: &[FrameRange]) -> Result<Option<Why>, AllocError>
+        ensures { IfOk result (λ why. (guest : Option ℕ) → (before : List Passed) → Stands guest before self.now →
+            why ≡ naming_first (λ passed. have_common (claims_taken passed) claims.now) whys.HostOverlap before) }
+    {
+        match self.claimant(claims) {
+            None => Ok(None),
+            Some(item) => Ok(Some(Why::HostOverlap(item.copy(alloc)?))),
+        }
+    }
+
+    /// The layout, or the earliest item of the guest, that has one of these pages.
+    pub(crate) fn guest_overlap(
+        &self,
+        alloc: Global,
+        pages: &[FrameRange],
+    ) -> Result<Option<Why>, AllocError>
+        ensures { IfOk result (λ why. (guest : Option ℕ) → (before : List Passed) → Stands guest before self.now →
+            why ≡ overlap_in (have_common layout_pages pages.now) (naming_first (λ passed. have_common (pages_taken guest passed) pages.now) whys.GuestOverlap before)) }
+    {
+        if meet_layout(pages) {
+            let path = Bytes::new(alloc);
+            return Ok(Some(Why::GuestOverlap(Item {
+                part: Part::Layout,
+                path,
+                index: 0,
+            })));
+        }
+        match self.occupant(pages) {
+            None => Ok(None),
+            Some(item) => Ok(Some(Why::GuestOverlap(item.copy(alloc)?))),
+        }
+    }
+
+    /// NotRam where a frame is none of the host's memory, or else the earliest item that claims one.
+    fn land(
+        &self,
+        alloc: Global,
+        ram: &[FrameRange],
+        claims: &[FrameRange],
+    ) -> Result<Option<Why>, AllocError>
+        requires sorted { AreFrameRanges ram.now }
+        requires low { All (λ range. range.first + range.count ≤ 2 ^ 28) claims.now }
+        ensures { IfOk result (λ why. (guest : Option ℕ) → (before : List Passed) → Stands guest before self.now →
+            why ≡ option_or (where_so (not (lie_in ram.now claims.now)) whys.NotRam) (naming_first (λ passed. have_common (claims_taken passed) claims.now) whys.HostOverlap before)) }
+    {
+        if !lie_in(ram, claims) {
+            return Ok(Some(Why::NotRam));
+        }
+        self.host_overlap(alloc, claims)
+    }
+
+    /// The first reason against an item among those that need the host's memory or the items before it.
+    pub(crate) fn reason_against(
+        &self,
+        alloc: Global,
+        ram: &[FrameRange],
+        owner: Owner,
+        described: &Described,
+        takes: &Takes,
+    ) -> Result<Option<Why>, AllocError>
+        requires sorted { AreFrameRanges ram.now }
+        requires low { All (λ range. range.first + range.count ≤ 2 ^ 28) takes.now.claims.items }
+        ensures { IfOk result (λ why. (before : List Passed) → Stands owner.guest before self.now →
+            why ≡ first_there (cross_reasons ram.now before (mine_of owner described.now takes.now))) }
+    {
+        match &described.what {
+            What::Load { .. } => self.land(alloc, ram, takes.claims.as_slice()),
+            What::Module { kind, .. } => {
+                match self.land(alloc, ram, takes.claims.as_slice())? {
+                    Some(why) => Ok(Some(why)),
+                    None => Ok(partial_unread(owner, *kind)),
+                }
+            }
+            What::Static { .. } => {
+                match self.land(alloc, ram, takes.claims.as_slice())? {
+                    Some(why) => Ok(Some(why)),
+                    None => self.guest_overlap(alloc, takes.pages.as_slice()),
+                }
+            }
+            What::Range { .. } => {
+                match self.host_overlap(alloc, takes.claims.as_slice())? {
+                    Some(why) => Ok(Some(why)),
+                    None => self.guest_overlap(alloc, takes.pages.as_slice()),
+                }
+            }
+            What::Irq { number } => self.irq_reason(alloc, owner, *number),
+            What::Shared {
+                id,
+                host,
+                size,
+                owner: owns,
+                ..
+            } => match self.region_named(alloc, owner, id.as_slice(), *host, *size, *owns)? {
+                Some(why) => Ok(Some(why)),
+                None => self.region_lands(alloc, ram, id.as_slice(), takes),
+            },
+            _ => Ok(None),
+        }
+    }
+}

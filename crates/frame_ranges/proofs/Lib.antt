@@ -1,0 +1,5 @@
+pub mod CommonFrames
+pub mod CoverLemmas
+pub mod GapLemmas
+pub mod LaterLemmas
+pub mod LeftLemmas
