@@ -1,0 +1,12 @@
+use Rattle.std.proofs.Common.{◌+◌, ◌^◌, ◌≤◌, arith}
+use Rattle.build_report.specs.Lines.{ram_pages}
+use Rattle.build_report.proofs.Bounds.{have_addresses, few_pages}
+use Rattle.build_report.proofs.guest.append_guest.Goals as goal
+
+pub append_head-requires : goal.append_head-requires
+append_head-requires c =
+    let few : 0 + ram_pages c.args.plan.now.ranges ≤ 2 ^ 28 = few_pages c.args.plan.now.ranges 0 (omega arith) c.requires in
+    omega arith
+
+pub append_runs-requires : goal.append_runs-requires
+append_runs-requires c = rw c.as_slice.ensures (have_addresses c.args.plan.now.ranges 0 c.requires)

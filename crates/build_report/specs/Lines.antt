@@ -1,0 +1,70 @@
+-- The lines of a report.
+use Rattle.std.specs.Prelude.{ℕ, ◌*◌, ◌==◌, ◌++◌, List, [], ◌∷◌, codes, decimal, if◌then◌else◌, sum_by}
+use Rattle.dl_base.specs.NumberTexts.{hexadecimal}
+use Rattle.dl_base.specs.declared.ranges.Kind.{Kind}
+use Rattle.dl_base.specs.declared.ranges.Kind.TheVariants.{Ram, Device, Shared}
+use Rattle.dl_base.specs.declared.ranges.MapRange.{MapRange}
+use Rattle.domain_plan.specs.declared.planned.GuestPlan.{GuestPlan}
+
+-- a line ends with a line feed
+abbrev pub line : List ℕ → List ℕ
+line text = text ++ 10 ∷ []
+
+-- a kind as it is shown
+unfoldable pub kind_text : Kind → List ℕ
+kind_text Ram = codes "ram"
+kind_text Device = codes "device"
+kind_text Shared = codes "shared"
+
+-- the address of a page or a frame, as it is shown
+abbrev pub address_text : ℕ → List ℕ
+address_text page = hexadecimal (page * 4096)
+
+-- where a run goes: its first guest page, and the first host frame
+abbrev pub places_text : MapRange → List ℕ
+places_text run = address_text run.page ++ (codes " -> " ++ address_text run.first)
+
+-- the line of a run: where it goes, how many pages it has, and their kind
+abbrev pub run_line : MapRange → List ℕ
+run_line run = line (codes "  " ++ (places_text run ++ (codes " pages " ++ (decimal run.count ++ (codes " " ++ kind_text run.kind)))))
+
+-- the line of an interrupt
+abbrev pub spi_line : ℕ → List ℕ
+spi_line number = line (codes "  spi " ++ decimal number)
+
+-- the number that stands for dom0 among peers
+abbrev pub dom0 : ℕ
+dom0 = 0xffffffff
+
+-- the other side of a port: dom0, or a guest by its number
+abbrev pub peer_text : ℕ → List ℕ
+peer_text peer = if peer == dom0 then codes "dom0" else codes "domU" ++ decimal peer
+
+-- the line of a port: its number, the other side and its number there
+abbrev pub port_line : ℕ × ℕ × ℕ → List ℕ
+port_line (port, peer, peer_port) = line (codes "  port " ++ (decimal port ++ (codes " to " ++ (peer_text peer ++ (codes " " ++ decimal peer_port)))))
+
+-- the pages of memory in a run
+abbrev pub ram_in : MapRange → ℕ
+ram_in run = elim run.kind as (λ _. ℕ) [ Ram ↦ run.count | _ ↦ 0 ]
+
+-- a guest's pages of memory
+abbrev pub ram_pages : List MapRange → ℕ
+ram_pages runs = sum_by ram_in runs
+
+-- a guest's name, by its number, and its path
+abbrev pub name_text : GuestPlan → List ℕ
+name_text plan = codes "domU" ++ (decimal plan.number ++ (codes " " ++ plan.path))
+
+-- how many vCPUs and pages of memory a guest has, and how many tables its image
+abbrev pub counts_text : GuestPlan → ℕ → List ℕ
+counts_text plan tables =
+    codes " cpus " ++ (decimal plan.cpus ++ (codes " ram " ++ (decimal (ram_pages plan.ranges) ++ (codes " tables " ++ decimal tables))))
+
+-- the first line of a guest
+abbrev pub head_line : GuestPlan → ℕ → List ℕ
+head_line plan tables = line (name_text plan ++ counts_text plan tables)
+
+-- the last line: how many frames are left
+abbrev pub free_line : ℕ → List ℕ
+free_line frames = line (codes "free " ++ decimal frames)

@@ -1,0 +1,3 @@
+pub mod GuestByGuest
+pub mod LeastFiles
+pub mod WalksApart

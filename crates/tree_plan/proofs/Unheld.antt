@@ -1,0 +1,94 @@
+-- The numbers that nodes have in memory are of no matter to a plan.
+use Rattle.std.proofs.Common.{◌≡◌, ◌∙◌, ap, subst, refl, ℕ, ◌+◌, List, [], ◌∷◌, ◌++◌, map, length, All, Option, Some, None, Result, Err}
+use Rattle.std.proofs.lemmas.List.Elements.{All-nil, All-cons, All-head, All-tail}
+use Rattle.dl_base.specs.declared.ranges.FrameRange.{FrameRange}
+use Rattle.dl_base.specs.declared.why.Why.TheVariants.{NoRam}
+use Rattle.domain_bindings.specs.declared.host.Host.{Host}
+use Rattle.domain_plan.specs.declared.described.Guest.{Guest}
+use Rattle.domain_plan.specs.declared.described.Loaded2.{Loaded2}
+use Rattle.domain_plan.specs.declared.planned.GuestPlan.{GuestPlan}
+use Rattle.domain_plan.specs.Arguments.{AreRead, AreSound, IsSoundGuest, has_no_fault}
+use Rattle.domain_plan.specs.Draws.{Drawn, Heaps, drawn, heaps, and_drawn, heap_item, free_frames}
+use Rattle.domain_plan.specs.Entries.{Entry, joined, of_host, of_guest, items_of, is_read, load_item, guest_entries}
+use Rattle.domain_plan.specs.Plans.{passed_of, outcome, unless_refused, IsGuestPlan, AreGuestPlans}
+use Rattle.domain_plan.specs.Refusals.{Refusal, first_refused}
+use Rattle.domain_plan.specs.Taken.{Passed, all_passed}
+use Rattle.tree_plan.specs.HeldGuests.{unheld, unheld_host}
+
+entries_unheld : (number : ℕ) (guests : List Guest) → guest_entries number (map unheld guests) ≡ guest_entries number guests
+entries_unheld number [] = refl
+entries_unheld number (guest ∷ guests) =
+    ap (λ (rest : List Entry). of_guest number (is_read guest.partial) (items_of guest) ++ rest) (entries_unheld (number + 1) guests)
+
+module _ (host : Host) (loads : List Loaded2) where
+  pub joined_unheld : (guests : List Guest) → joined (unheld_host host) loads (map unheld guests) ≡ joined host loads guests
+  joined_unheld guests = ap (λ (rest : List Entry). of_host host.items ++ of_host (map load_item loads) ++ of_host host.modules ++ rest) (entries_unheld 0 guests)
+
+  pub passed_unheld : (guests : List Guest) → passed_of (unheld_host host) loads (map unheld guests) ≡ passed_of host loads guests
+  passed_unheld guests = ap (all_passed []) (joined_unheld guests)
+
+heaps_unheld : (guests : List Guest) (free : List ℕ) → heaps (map unheld guests) free ≡ heaps guests free
+unfolding heaps
+heaps_unheld [] free = refl
+heaps_unheld (guest ∷ guests) free = by (drawn guest.domain.pages free) (heaps_unheld guests)
+  where
+    by : (one : Option Drawn) → ((left : List ℕ) → heaps (map unheld guests) left ≡ heaps guests left)
+        → elim one as (λ _. Result Heaps Refusal) [
+          | None ↦ Err (heap_item guest, NoRam guest.domain.pages (length free))
+          | Some one ↦ and_drawn one.frames (heaps (map unheld guests) one.left)
+        ] ≡ elim one as (λ _. Result Heaps Refusal) [
+          | None ↦ Err (heap_item guest, NoRam guest.domain.pages (length free))
+          | Some one ↦ and_drawn one.frames (heaps guests one.left)
+        ]
+    by None later = refl
+    by (Some one) later = ap (and_drawn one.frames) (later one.left)
+
+pub outcome_unheld : (host : Host) (loads : List Loaded2) (guests : List Guest) → outcome (unheld_host host) loads (map unheld guests) ≡ outcome host loads guests
+unfolding outcome
+outcome_unheld host loads guests =
+    ap (λ (entries : List Entry). unless_refused (first_refused host.ram [] entries) (heaps (map unheld guests) (free_frames host.ram (all_passed [] entries)))) (joined_unheld host loads guests)
+    ∙ ap (unless_refused (first_refused host.ram [] (joined host loads guests))) (heaps_unheld guests (free_frames host.ram (passed_of host loads guests)))
+
+-- the plans of guests are those of guests without the numbers of their nodes
+plan_unheld : (passed : List Passed) (number : ℕ) (guest : Guest) (frames : List FrameRange) (plan : GuestPlan) → IsGuestPlan passed number guest frames plan → IsGuestPlan passed number (unheld guest) frames plan
+plan_unheld passed number guest frames plan is = record {
+  guest_number = is.guest_number;
+  path = is.path;
+  cpus = is.cpus;
+  console = is.console;
+  gic = is.gic;
+  bootargs = is.bootargs;
+  memories = is.memories;
+  sorted = is.sorted;
+  merged = is.merged;
+  mapped = is.mapped;
+  spis = is.spis;
+  shared = is.shared;
+  ports = is.ports;
+}
+
+pub plans_unheld : (passed : List Passed) (number : ℕ) (guests : List Guest) (drawn : List (List FrameRange)) (plans : List GuestPlan) → AreGuestPlans passed number guests drawn plans
+    → AreGuestPlans passed number (map unheld guests) drawn plans
+plans_unheld passed number [] [] [] are = tt
+plans_unheld passed number [] [] (plan ∷ plans) are = elim are [ ]
+plans_unheld passed number [] (frames ∷ drawn) [] are = elim are [ ]
+plans_unheld passed number [] (frames ∷ drawn) (plan ∷ plans) are = elim are [ ]
+plans_unheld passed number (guest ∷ guests) [] [] are = elim are [ ]
+plans_unheld passed number (guest ∷ guests) [] (plan ∷ plans) are = elim are [ ]
+plans_unheld passed number (guest ∷ guests) (frames ∷ drawn) [] are = elim are [ ]
+plans_unheld passed number (guest ∷ guests) (frames ∷ drawn) (plan ∷ plans) are =
+    (plan_unheld passed number guest frames plan are.0, plans_unheld passed (number + 1) guests drawn plans are.1)
+
+-- and so is what a plan asks
+sound_held : (guests : List Guest) → All IsSoundGuest (map unheld guests) → All IsSoundGuest guests
+sound_held [] all = All-nil IsSoundGuest
+sound_held (guest ∷ guests) all =
+    let first : IsSoundGuest (unheld guest) = All-head IsSoundGuest (unheld guest) (map unheld guests) all in
+    All-cons IsSoundGuest guest guests (record { head = first.head; statics = first.statics }) (sound_held guests (All-tail IsSoundGuest (unheld guest) (map unheld guests) all))
+
+pub read_held : (host : Host) (loads : List Loaded2) (guests : List Guest) → AreRead (unheld_host host) loads (map unheld guests) → AreRead host loads guests
+read_held host loads guests read = record {
+  ram = read.ram;
+  items = subst AreSound (joined_unheld host loads guests) read.items;
+  guests_sound = λ clear. sound_held guests (read.guests_sound (ap has_no_fault (joined_unheld host loads guests) ∙ clear));
+}

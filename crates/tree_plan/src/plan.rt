@@ -1,0 +1,39 @@
+//! The plan of a host's tree.
+ghost use Rattle.std.specs.Prelude.{◌≡◌, All, IfErr, IfOk, Ok};
+ghost use Rattle.dl_base.specs.Maps.{AreMapRanges, AreMerged};
+ghost use Rattle.guest_images.specs.Walks.{ArePlannedApart};
+ghost use Rattle.tree_plan.specs.Descriptions.{description_of};
+ghost use Rattle.tree_plan.specs.TreePlans.{IsFaultOf, is_common, plan_of};
+
+use crate::guests::read_guests;
+use dl_base::List;
+use domain_bindings::read_host;
+use domain_plan::{Loaded2, Plan, PlanFault, plan};
+use fdt_tree::{Reserve, Tree};
+use std::alloc::Global;
+
+/// What every guest that a host's tree describes is given, and the frames that are left for tables; or the first item
+/// that is refused, with the first reason against it. `reserves` are the tree's reservations, `loads` the files that were
+/// loaded, and `partials` has, for each guest in document order, its partial device tree, where that was read; a guest
+/// past their end has none that was read.
+pub fn plan_tree(
+    alloc: Global,
+    tree: &Tree,
+    reserves: &[Reserve],
+    loads: &List<Loaded2>,
+    partials: &[Option<Tree>],
+) -> Result<Plan, PlanFault>
+    // Exactly the plan that the description determines.
+    ensures planned { IfOk result (λ plan. plan_of (description_of tree.now reserves.now loads.now partials.now) ≡ Ok (record { guests = plan.guests; free = plan.pool.free })) }
+    // Exactly the first refused item with its first reason.
+    ensures refused { IfErr result (IsFaultOf (plan_of (description_of tree.now reserves.now loads.now partials.now))) }
+
+    // What images are built from: maps in sorted, merged ranges, and apart from each other and from the frames left.
+    ensures sorted { IfOk result (λ plan. All (λ guest. AreMapRanges guest.ranges) plan.guests) }
+    ensures merged { IfOk result (λ plan. All (λ guest. AreMerged guest.ranges) plan.guests) }
+    ensures apart { IfOk result (λ plan. ArePlannedApart (is_common (description_of tree.now reserves.now loads.now partials.now)) plan.guests plan.pool.free) }
+{
+    let host = read_host(alloc, tree, reserves)?;
+    let guests = read_guests(alloc, tree, partials)?;
+    plan(alloc, &host, loads, &guests)
+}
