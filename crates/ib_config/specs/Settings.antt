@@ -1,5 +1,5 @@
 -- What a configuration says: each variable's value, or the first fault, and the names that have no effect.
-use Rattle.std.specs.Prelude.{◌≡◌, ℕ, Bool, false, not, ◌&&◌, ◌||◌, List, [], ◌∷◌, ◌++◌, map, Some, None, Result, Ok, Err, if◌then◌else◌, codes, decimal, filter, is_some, nat_lt, bytes_eq}
+use Rattle.std.specs.Prelude.{◌≡◌, ℕ, ◌<◌, ◌^◌, length, Bool, false, not, ◌&&◌, ◌||◌, List, [], ◌∷◌, ◌++◌, map, Some, None, Result, Ok, Err, if◌then◌else◌, codes, decimal, filter, is_some, nat_lt, bytes_eq}
 use Rattle.std.specs.List.{list_any}
 use Rattle.std.specs.Option.{option_map_or}
 use Rattle.dl_base.specs.Consecutive.{numbers}
@@ -128,9 +128,9 @@ settings_of assigned = do
 unfoldable pub config_of : List ℕ → Result Settings ConfigFault
 config_of bytes = option_map_or Err (first_line_fault 1 (lines_of bytes)) (settings_of (assigned_in (assignments_of bytes)))
 
--- settings that some file says
+-- settings that some file says, of fewer than 2^64 bytes, as each file in memory is
 abbrev pub IsConfig : Settings → Type 0
-IsConfig settings = (bytes : List ℕ) × (config_of bytes ≡ Ok settings)
+IsConfig settings = (bytes : List ℕ) × (length bytes < 2 ^ 64) × (config_of bytes ≡ Ok settings)
 
 -- What a call answered is what the definition gives, unless memory ran out.
 abbrev pub IsFault : {Y : Type 0} → ConfigFault → Result Y ConfigFault → Type 0

@@ -81,7 +81,7 @@ settings_bounds assigned s is =
 
 pub config_bounds : (settings : Settings) → IsConfig settings → Bounds settings
 unfolding config_of
-config_bounds s (bytes, is) = by (first_line_fault 1 (lines_of bytes)) is
+config_bounds s (bytes, short, is) = by (first_line_fault 1 (lines_of bytes)) is
   where
     by : (fault : Option ConfigFault) → option_map_or Err fault (settings_of (assigned_in (assignments_of bytes))) ≡ Ok s → Bounds s
     by None read = settings_bounds (assigned_in (assignments_of bytes)) s read

@@ -1,7 +1,8 @@
 -- What the places of files have in common.
-use Rattle.std.proofs.Common.{◌≡◌, ℕ, ◌+◌, ◌≤◌, ◌%◌, inl, inr, List, [], ◌∷◌, length, map, Some, None, Ok, Err, refl, ap, arith}
+use Rattle.std.proofs.Common.{◌≡◌, ℕ, suc, ◌+◌, ◌^◌, ◌<◌, ◌≤◌, ◌%◌, inl, inr, true, List, [], ◌∷◌, get_or, length, map, Some, None, Ok, Err, refl, sym, ap, subst, arith}
 use Rattle.std.specs.Prelude.{Option, Result, IfOk, nat_lt, find}
 use Rattle.std.specs.Option.{option_map_or}
+use Rattle.std.specs.List.{list_all}
 use Rattle.std.proofs.lemmas.Bool.{cases_Bool}
 use Rattle.std.proofs.lemmas.Bool.Decides.{nat_tests}
 use Rattle.ib_config.specs.declared.settings.Settings.{Settings}
@@ -9,7 +10,7 @@ use Rattle.ib_placement.specs.Apart.{LieBetween}
 use Rattle.ib_placement.specs.declared.places.FilePlace.{FilePlace}
 use Rattle.ib_placement.specs.declared.places.PlaceFault.{PlaceFault}
 use Rattle.ib_placement.specs.declared.places.PlaceFault.TheVariants.{PastEnd}
-use Rattle.ib_placement.specs.Placement.{round_up, counted, room_of, files_of, end_of, placed, placed_from, places_below, places_of, Gives}
+use Rattle.ib_placement.specs.Placement.{round_up, counted, room_of, files_of, end_of, placed, placed_from, places_below, places_of, is_wide, Gives}
 
 -- the places without their ends
 abbrev without_ends : List (FilePlace × ℕ) → List FilePlace
@@ -93,7 +94,25 @@ places_apart settings sizes places is = by (find (λ one. nat_lt settings.memory
         rw (← same) (lie_from (settings.memory_start + 0x200000) (settings.memory_start + 0x200000) settings.memory_end (files_of settings) sizes (omega arith) none)
     by (Some one) some given = absurd (cc)
 
+-- the addresses of places below a limit and sizes of 64 bits are wide
+wide_from : (low high : ℕ) (places : List FilePlace) → high < 2 ^ 64 → LieBetween low high places → ((k : ℕ) → get_or (map (λ (p : FilePlace). p.size) places) k 0 < 2 ^ 64) → list_all is_wide places ≡ true
+wide_from low high [] fits lie each = refl
+wide_from low high (p ∷ ps) fits lie each =
+    let size : nat_lt p.size (2 ^ 64) ≡ true = small p.size (each 0) in
+    let address : nat_lt p.address (2 ^ 64) ≡ true = small p.address (omega (arith, lie.2)) in
+    rw (address, size, wide_from (p.address + counted p.size) high ps fits lie.3 (λ k. each (suc k))) refl
+  where
+    small : (n : ℕ) → n < 2 ^ 64 → nat_lt n (2 ^ 64) ≡ true
+    small n less = grind (arith, nat_tests)
+
 -- the same of what a call answered
+pub answer_wide : (settings : Settings) (sizes : List ℕ) (answer : Result (List FilePlace) PlaceFault) → length sizes ≡ length (files_of settings) → settings.memory_end < 2 ^ 64 → ((k : ℕ) → get_or sizes k 0 < 2 ^ 64) → Gives answer (places_of settings sizes)
+    → IfOk answer (λ places. list_all is_wide places ≡ true)
+answer_wide settings sizes (Ok places) same fits each gives =
+    wide_from (settings.memory_start + 0x200000) settings.memory_end places fits (places_apart settings sizes places gives)
+    (λ k. subst (λ xs. get_or xs k 0 < 2 ^ 64) (sym (places_sized settings sizes places same gives)) (each k))
+answer_wide settings sizes (Err fault) same fits each gives = tt
+
 pub answer_named : (settings : Settings) (sizes : List ℕ) (answer : Result (List FilePlace) PlaceFault) → length sizes ≡ length (files_of settings) → Gives answer (places_of settings sizes)
     → IfOk answer (λ places. map (λ (p : FilePlace). p.name) places ≡ files_of settings)
 answer_named settings sizes (Ok places) same gives = places_named settings sizes places same gives

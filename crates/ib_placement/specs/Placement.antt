@@ -1,5 +1,5 @@
 -- Where the files of a configuration are loaded: one after the other from 2 MiB above MEMORY_START, each at a multiple of 2 MiB.
-use Rattle.std.specs.Prelude.{◌≡◌, ℕ, ◌+◌, ◌*◌, ◌/◌, ◌^◌, min, max, List, [], ◌∷◌, ◌++◌, map, Result, Ok, Err, nat_lt, find, option_to_list}
+use Rattle.std.specs.Prelude.{◌≡◌, ℕ, ◌+◌, ◌*◌, ◌/◌, ◌^◌, min, max, Bool, ◌&&◌, List, [], ◌∷◌, ◌++◌, map, Result, Ok, Err, nat_lt, find, option_to_list}
 use Rattle.std.specs.List.{flat_map}
 use Rattle.std.specs.Option.{option_map_or}
 use Rattle.ib_config.specs.declared.settings.Settings.{Settings}
@@ -23,6 +23,10 @@ files_of settings = (settings.xen ∷ dom0_files settings) ++ flat_map guest_fil
 -- the least multiple of 2 MiB that is not below an address
 abbrev pub round_up : ℕ → ℕ
 round_up address = (address + 0x1fffff) / 0x200000 * 0x200000
+
+-- whether the address and the size of a file are of 64 bits
+abbrev pub is_wide : FilePlace → Bool
+is_wide place = nat_lt place.address (2 ^ 64) && nat_lt place.size (2 ^ 64)
 
 -- what a size counts: at least 1 and at most 2^40 bytes
 abbrev pub counted : ℕ → ℕ

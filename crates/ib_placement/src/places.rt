@@ -1,6 +1,7 @@
 // The places of files, one after the other.
 ghost use Rattle.std.specs.Prelude.{◌≡◌, ◌≤◌, ◌<◌, ◌+◌, ◌^◌, length, map, true, false, IfOk};
-ghost use Rattle.ib_placement.specs.Placement.{files_of, places_of, places_below, placed_from, round_up as rounded_up, counted as counted_size, Gives};
+ghost use Rattle.std.specs.List.{list_all};
+ghost use Rattle.ib_placement.specs.Placement.{files_of, places_of, places_below, placed_from, round_up as rounded_up, counted as counted_size, is_wide, Gives};
 ghost use Rattle.ib_placement.specs.Apart.{LieBetween};
 ghost use Rattle.ib_placement.specs.declared.places.PlaceFault.TheVariants.{Memory};
 
@@ -58,6 +59,7 @@ pub fn place(alloc: Global, config: &Config, sizes: &[u64]) -> Result<Places, Pl
     ensures value { Gives result (places_of config.now sizes.now) }
     ensures names { IfOk result (λ places. map (λ p. p.name) places ≡ files_of config.now) }
     ensures sizes { IfOk result (λ places. map (λ p. p.size) places ≡ sizes.now) }
+    ensures wide { IfOk result (λ places. list_all is_wide places ≡ true) }
     ensures apart { IfOk result (LieBetween (config.now.memory_start + 0x200000) config.now.memory_end) }
 {
     config.known();

@@ -131,7 +131,7 @@ settings_bounded assigned s k is =
 -- each guest of a configuration
 config_bounded : (s : Settings) (k : ℕ) → IsConfig s → IfSome (slice_get s.guests k) HasBounded
 unfolding config_of
-config_bounded s k (bytes, is) = by (first_line_fault 1 (lines_of bytes)) is
+config_bounded s k (bytes, short, is) = by (first_line_fault 1 (lines_of bytes)) is
   where
     by : (fault : Option ConfigFault) → option_map_or Err fault (settings_of (assigned_in (assignments_of bytes))) ≡ Ok s → IfSome (slice_get s.guests k) HasBounded
     by None read = settings_bounded (assigned_in (assignments_of bytes)) s k read

@@ -1,4 +1,4 @@
-use Rattle.std.proofs.Common.{rules, ◌≡◌, ◌∙◌, Err, refl}
+use Rattle.std.proofs.Common.{arith, rules, ◌≡◌, ◌∙◌, Err, refl}
 use Rattle.ib_config.specs.Scan.{held, file_read}
 use Rattle.ib_config.specs.Settings.{settings_of, config_of}
 use Rattle.ib_config.proofs.ConfigLemmas.{config_is}
@@ -17,7 +17,7 @@ returns-in_err-settings c =
     (λ e bad. config_is c.args.bytes.now ∙ rw (c.in_ok-assigned.ensures, bad) refl) c.in_err-settings.ensures.value)
 
 pub invariant_of-result : goal.invariant_of-result
-invariant_of-result c = (c.in_ok-settings.ensures.few, (c.args.bytes.now, config_is c.args.bytes.now ∙ rw c.in_ok-assigned.ensures c.in_ok-settings.ensures.value))
+invariant_of-result c = (c.in_ok-settings.ensures.few, (c.args.bytes.now, omega arith, config_is c.args.bytes.now ∙ rw c.in_ok-assigned.ensures c.in_ok-settings.ensures.value))
 
 pub returns : goal.returns
 returns c = config_is c.args.bytes.now ∙ rw c.in_ok-assigned.ensures c.in_ok-settings.ensures.value

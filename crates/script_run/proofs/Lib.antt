@@ -1,0 +1,34 @@
+-- Lemmas.
+mod Instances
+pub mod RunLemmas
+pub mod WordSteps
+pub mod NumberLemmas
+pub mod TextLemmas
+pub mod PathLemmas
+pub mod ReadLemmas
+pub mod MachineLemmas
+pub mod DigitLemmas
+pub mod WordLemmas
+pub mod LineLemmas
+pub mod CommandLemmas
+pub mod Printed
+pub mod PrintedLines
+pub mod TreeEdits
+pub mod NodeEdits
+pub mod EditSteps
+pub mod GuestEdits
+pub mod GoodPaths
+pub mod GoodGuests
+pub mod GoodScript
+pub mod GuestWhole
+pub mod Distinct
+pub mod ChosenEdits
+pub mod ChosenSteps
+pub mod ScriptSteps
+pub mod Refused
+pub mod Extensions
+pub mod AssignedTexts
+pub mod SpokenValues
+pub mod SpokenSettings
+pub mod SpokenScripts
+pub mod ScriptLaws

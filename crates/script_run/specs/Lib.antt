@@ -1,0 +1,12 @@
+pub mod Words
+pub mod Numbers
+pub mod Commands
+pub mod Reading
+pub mod State
+pub mod StateCode
+pub mod Effect
+pub mod Edited
+pub mod Laws
+pub mod Scan
+pub mod Moves
+pub mod FaultTexts
