@@ -10,7 +10,8 @@ mod image;
 mod nodes;
 mod parts;
 mod places;
-mod ranges;mod verdict;
+mod ranges;
+mod verdict;
 
 pub use build::build_guest;
 pub use fault::BuildFault;

@@ -9,23 +9,23 @@ use Rattle.fdt_tree.specs.Tree.{Tree}
 use Rattle.fdt_tree.specs.declared.reserve.Reserve.{Reserve}
 use Rattle.fdt_read.specs.Reservations.{pairs, reservations_block, before_last, is_last_pair}
 use Rattle.fdt_read.specs.Spells.{Spells}
-use Rattle.fdt_write.specs.Flattened.{flattened}
 use Rattle.direct_guest.specs.declared.guest.Guest.{Guest}
 use Rattle.direct_guest.specs.Verdicts.{verdict}
 use Rattle.direct_guest.specs.Images.{IsImageFileOf}
-use Rattle.dom0less.specs.Endings.{Builds}
-use Rattle.dom0less.specs.Outputs.{files_of, report_of}
-use Rattle.dom0less.specs.declared.output.Build.{Build}
-use Rattle.dom0less.specs.declared.stop.Stop.{Stop}
-use Rattle.dom0less.specs.Trees.{IsWrittenBuild, IsVerdictBuild, IsTreeBuild}
+use Rattle.run_steps.specs.Steps.{OnResult}
+use Rattle.run_steps.specs.Trees.{FlatTree}
+use Rattle.run_steps.specs.Outputs.{outcome_of}
+use Rattle.run_steps.specs.declared.output.Build.{Build}
+use Rattle.run_steps.specs.declared.stop.Stop.{Stop}
+use Rattle.dom0less.specs.Trees.{IsItemRefusal, IsWrittenBuild, IsTreeBuild, written_tree}
 
 -- where the guest is built that the tree describes
-pub guest_built : (reserves : List Reserve) (boot : ℕ) (root : Tree) (image : List ℕ) → (guest : Guest) × (verdict root reserves ≡ Ok guest) × IsImageFileOf guest image
-    → (result : Result Build Stop) → IfOk result (λ build. (guest : Guest) → IsImageFileOf guest image → IsWrittenBuild guest (flattened reserves boot root) (Builds (files_of build) (report_of build)))
-    → IfOk result (λ build. IsTreeBuild reserves boot root (Builds (files_of build) (report_of build)))
-guest_built reserves boot root image built (Ok build) written =
-    subst (λ (judged : Result Guest (Item × Why)). IsVerdictBuild judged (flattened reserves boot root) (Builds (files_of build) (report_of build))) (sym built.1) (written built.0 built.2)
-guest_built reserves boot root image built (Err stop) written = tt
+pub guest_built : (tree : FlatTree) (image : List ℕ) → (guest : Guest) × (verdict tree.root tree.reserves ≡ Ok guest) × IsImageFileOf guest image
+    → (result : Result Build Stop) → IfOk result (λ build. (guest : Guest) → IsImageFileOf guest image → IsWrittenBuild (written_tree tree) guest (outcome_of build))
+    → IfOk result (λ build. IsTreeBuild tree (outcome_of build))
+guest_built tree image built (Ok build) written =
+    subst (λ (judged : Result Guest (Item × Why)). OnResult IsItemRefusal (IsWrittenBuild (written_tree tree)) judged (outcome_of build)) (sym built.1) (written built.0 built.2)
+guest_built tree image built (Err stop) written = tt
 
 -- a pair that does not end the list, before others
 one_more : (reserve : Reserve) (later : List Reserve) (test : Bool) → not (is_last_pair reserve) ≡ test → IsTrue (list_all (λ reserve. not (is_last_pair reserve)) later)

@@ -1,8 +1,5 @@
-pub mod Taken
-pub mod Due
-pub mod Readings
-pub mod Steps
 pub mod Builds
-pub mod Scripts
+pub mod ConfigSteps
 pub mod OneOutcome
+pub mod Exact
 pub mod Written

@@ -2,11 +2,11 @@
 use Rattle.std.specs.Prelude.{ℕ, List, codes, Option, Some, None}
 use Rattle.dl_base.specs.Outside.{File}
 use Rattle.dl_base.specs.declared.status.Status.TheVariants as statuses
-use Rattle.dom0less.specs.Lines.{line}
+use Rattle.run_steps.specs.Endings.{Outcome}
+use Rattle.run_steps.specs.Steps.{IsRefusal}
+use Rattle.run_steps.specs.Trees.{AfterTreeFile}
 use Rattle.dom0less.specs.Words.{Asked, Build, Show, Script, settings}
-use Rattle.dom0less.specs.Endings.{Outcome}
-use Rattle.dom0less.specs.Steps.{IsRefusal}
-use Rattle.dom0less.specs.Trees.{AfterTreeFile, IsTreeBuild, IsTreeListing}
+use Rattle.dom0less.specs.Trees.{IsTreeBuild, IsTreeListing}
 use Rattle.dom0less.specs.Scripts.{IsScriptJob}
 
 -- what is asked for
@@ -17,7 +17,7 @@ IsAskedJob told (Script script) outcome = IsScriptJob told script outcome
 
 -- other words are refused
 abbrev pub IsSettingsJob : Option (List File) → Option Asked → Outcome → Type 0
-IsSettingsJob told None outcome = IsRefusal statuses.Words (line (codes "usage")) outcome
+IsSettingsJob told None outcome = IsRefusal statuses.Words (codes "usage") outcome
 IsSettingsJob told (Some asked) outcome = IsAskedJob told asked outcome
 
 -- the words and the files call for this outcome, by what the files hold where that is told, and else by some answers of theirs

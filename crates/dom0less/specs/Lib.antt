@@ -1,12 +1,9 @@
 pub mod Lines
 pub mod Words
 pub mod Meant
-pub mod Endings
-pub mod Steps
 pub mod Trees
+pub mod Configs
 pub mod Scripts
 pub mod Job
 pub mod Headline
 pub mod Laws
-pub mod Stops
-pub mod Outputs

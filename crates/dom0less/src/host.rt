@@ -1,23 +1,20 @@
 // What a host's tree is read for: the build of its guest, or its listing.
-ghost use Rattle.std.specs.Prelude.{◌≡◌, ◌≤◌, ◌∷◌, [], IfOk, IfErr, OnOk, All, IsTrue, not, length, codes};
+ghost use Rattle.std.specs.Prelude.{◌≡◌, ◌≤◌, ◌∷◌, [], IfOk, IfErr, OnOk, IsTrue, not, length, codes};
 ghost use Rattle.std.specs.List.{list_all};
 ghost use Rattle.fdt_read.specs.Reservations.{is_last_pair};
 ghost use Rattle.fdt_write.specs.Flattened.{flattened, length_limit};
 ghost use Rattle.direct_guest.specs.Images.{IsImageFileOf};
-ghost use Rattle.dom0less.specs.Endings.{Builds};
-ghost use Rattle.dom0less.specs.Outputs.{files_of, report_of, HasLine};
-ghost use Rattle.dom0less.specs.Trees.{AfterTreeFile, IsTreeBuild, IsTreeListing, IsWrittenBuild, IsLengthRefusal, host_tree_item};
-ghost use Rattle.dom0less.specs.Stops.{IsDue, IsOwnDue};
+ghost use Rattle.run_steps.specs.Outputs.{files_of, report_of, outcome_of};
+ghost use Rattle.run_steps.specs.Trees.{flat_tree, AfterTreeFile};
+ghost use Rattle.run_steps.specs.Stops.{IsDue, IsOwnDue};
+ghost use Rattle.dom0less.specs.Trees.{IsTreeBuild, IsTreeListing, IsWrittenBuild, IsLengthRefusal, host_tree_item, written_tree};
 
-use crate::lines::make_refused_line;
-use crate::output::{Build, make_output};
-use crate::reading::read_tree;
-use crate::stop::Stop;
 use direct_guest::{BuildFault, build_guest};
 use dl_base::{Bytes, Files, Item, List, Part, Status, Text, Why};
 use fdt_listing::list;
 use fdt_read::Flat;
 use fdt_write::{WriteFault, write};
+use run_steps::{Build, Output, Stop, TreeFile, make_refused_message, read_tree};
 use std::alloc::{AllocError, Global};
 
 /// What is written for the guest that the tree of this file describes.
@@ -26,13 +23,12 @@ pub(crate) fn prepare_build<F: Files>(
     name: &str,
     files: &mut F,
 ) -> Result<Build, Stop>
-    ensures built { IfOk result (λ build. AfterTreeFile (F.held files.old) name.now IsTreeBuild (Builds (files_of build) (report_of build))) }
-    ensures lines { IfOk result (λ build. All HasLine build.outputs) }
+    ensures built { IfOk result (λ build. AfterTreeFile (F.held files.old) name.now IsTreeBuild (outcome_of build)) }
     ensures stopped { IfErr result (λ stop. IsDue (AfterTreeFile (F.held files.old) name.now IsTreeBuild) (F.faults files.old, F.absents files.old, F.overlong files.old) (F.faults files.new, F.absents files.new, F.overlong files.new) stop) }
     ensures kept { F.held files.new ≡ F.held files.old }
 {
     let tree = read_tree(alloc, name, files)?;
-    make_build(alloc, &tree.flat)
+    make_build(alloc, &tree)
 }
 
 /// What is put for the tree of this file, where it is to be listed.
@@ -41,56 +37,52 @@ pub(crate) fn prepare_listing<F: Files>(
     name: &str,
     files: &mut F,
 ) -> Result<Build, Stop>
-    ensures built { IfOk result (λ build. AfterTreeFile (F.held files.old) name.now IsTreeListing (Builds (files_of build) (report_of build))) }
-    ensures lines { IfOk result (λ build. All HasLine build.outputs) }
+    ensures built { IfOk result (λ build. AfterTreeFile (F.held files.old) name.now IsTreeListing (outcome_of build)) }
     ensures stopped { IfErr result (λ stop. IsDue (AfterTreeFile (F.held files.old) name.now IsTreeListing) (F.faults files.old, F.absents files.old, F.overlong files.old) (F.faults files.new, F.absents files.new, F.overlong files.new) stop) }
     ensures kept { F.held files.new ≡ F.held files.old }
 {
     let tree = read_tree(alloc, name, files)?;
-    Ok(make_listing(alloc, &tree.flat)?)
+    Ok(make_listing(alloc, &tree)?)
 }
 
 /// The listing of a tree, as a report without outputs.
-fn make_listing(alloc: Global, flat: &Flat) -> Result<Build, AllocError>
-    ensures built { IfOk result (λ build. IsTreeListing flat.now.reserves flat.now.boot flat.now.tree.tree (Builds (files_of build) (report_of build))) }
-    ensures lines { IfOk result (λ build. All HasLine build.outputs) }
+fn make_listing(alloc: Global, tree: &TreeFile) -> Result<Build, AllocError>
+    ensures { IfOk result (λ build. IsTreeListing (flat_tree tree.now) (outcome_of build)) }
 {
-    let listing = list(alloc, &flat.tree, flat.reserves.as_slice())?;
+    let listing = list(alloc, &tree.flat.tree, tree.flat.reserves.as_slice())?;
     Ok(Build {
         outputs: List::new(alloc),
         report: Some(Bytes::from(listing)),
     })
 }
 
-/// The host's tree as it is written and the image of its guest, or the line about the item at fault.
-fn make_build(alloc: Global, flat: &Flat) -> Result<Build, Stop>
-    requires { IsTrue (list_all (λ reserve. not (is_last_pair reserve)) flat.now.reserves) }
-    ensures built { IfOk result (λ build. IsTreeBuild flat.now.reserves flat.now.boot flat.now.tree.tree (Builds (files_of build) (report_of build))) }
-    ensures lines { IfOk result (λ build. All HasLine build.outputs) }
-    ensures stopped { IfErr result (λ stop. IsOwnDue (IsTreeBuild flat.now.reserves flat.now.boot flat.now.tree.tree) stop) }
+/// The host's tree as it is written and the image of its guest, or the message about the item at fault.
+fn make_build(alloc: Global, tree: &TreeFile) -> Result<Build, Stop>
+    requires { IsTrue (list_all (λ reserve. not (is_last_pair reserve)) tree.now.flat.reserves) }
+    ensures built { IfOk result (λ build. IsTreeBuild (flat_tree tree.now) (outcome_of build)) }
+    ensures stopped { IfErr result (λ stop. IsOwnDue (IsTreeBuild (flat_tree tree.now)) stop) }
 {
-    match build_guest(alloc, &flat.tree, flat.reserves.as_slice()) {
-        Ok(image) => make_outputs(alloc, flat, image),
+    match build_guest(alloc, &tree.flat.tree, tree.flat.reserves.as_slice()) {
+        Ok(image) => make_outputs(alloc, tree, image),
         Err(BuildFault::Memory) => Err(Stop::Memory),
         Err(BuildFault::Refused(item, why)) => Err(Stop::Because(
             Status::Refused,
-            make_refused_line(alloc, &item, &why)?,
+            make_refused_message(alloc, &item, &why)?,
         )),
     }
 }
 
 /// The outputs of a guest whose image is made.
-fn make_outputs(alloc: Global, flat: &Flat, image: Bytes) -> Result<Build, Stop>
-    requires { IsTrue (list_all (λ reserve. not (is_last_pair reserve)) flat.now.reserves) }
-    ensures built { IfOk result (λ build. (guest : _) → IsImageFileOf guest image → IsWrittenBuild guest (flattened flat.now.reserves flat.now.boot flat.now.tree.tree) (Builds (files_of build) (report_of build))) }
-    ensures lines { IfOk result (λ build. All HasLine build.outputs) }
-    ensures stopped { IfErr result (λ stop. IsOwnDue (IsLengthRefusal (flattened flat.now.reserves flat.now.boot flat.now.tree.tree)) stop) }
+fn make_outputs(alloc: Global, tree: &TreeFile, image: Bytes) -> Result<Build, Stop>
+    requires { IsTrue (list_all (λ reserve. not (is_last_pair reserve)) tree.now.flat.reserves) }
+    ensures built { IfOk result (λ build. (guest : _) → IsImageFileOf guest image → IsWrittenBuild (written_tree (flat_tree tree.now)) guest (outcome_of build)) }
+    ensures stopped { IfErr result (λ stop. IsOwnDue (IsLengthRefusal (written_tree (flat_tree tree.now))) stop) }
 {
-    let host = write_host(alloc, flat)?;
+    let host = write_host(alloc, &tree.flat)?;
     Ok(two_outputs(alloc, host, image)?)
 }
 
-/// The host's tree as it is written, or the line about its length.
+/// The host's tree as it is written, or the message about its length.
 fn write_host(alloc: Global, flat: &Flat) -> Result<Bytes, Stop>
     requires { IsTrue (list_all (λ reserve. not (is_last_pair reserve)) flat.now.reserves) }
     ensures written { IfOk result (λ bytes. bytes ≡ flattened flat.now.reserves flat.now.boot flat.now.tree.tree) }
@@ -102,7 +94,7 @@ fn write_host(alloc: Global, flat: &Flat) -> Result<Bytes, Stop>
         Err(WriteFault::Memory) => Err(Stop::Memory),
         Err(WriteFault::TooLong(bytes)) => Err(Stop::Because(
             Status::Refused,
-            make_refused_line(alloc, &host_item(alloc)?, &Why::TreeTooLong(bytes))?,
+            make_refused_message(alloc, &host_item(alloc)?, &Why::TreeTooLong(bytes))?,
         )),
     }
 }
@@ -124,11 +116,16 @@ fn host_item(alloc: Global) -> Result<Item, AllocError>
 fn two_outputs(alloc: Global, host: Bytes, image: Bytes) -> Result<Build, AllocError>
     ensures files { IfOk result (λ build. files_of build ≡ (codes "host.dtb", host) ∷ (codes "domU0.s2", image) ∷ []) }
     ensures report { IfOk result (λ build. report_of build ≡ []) }
-    ensures lines { IfOk result (λ build. All HasLine build.outputs) }
 {
     let mut outputs = List::new(alloc);
-    outputs.push(make_output(alloc, text_of(alloc, "host.dtb")?, host)?)?;
-    outputs.push(make_output(alloc, text_of(alloc, "domU0.s2")?, image)?)?;
+    outputs.push(Output {
+        name: text_of(alloc, "host.dtb")?,
+        bytes: host,
+    })?;
+    outputs.push(Output {
+        name: text_of(alloc, "domU0.s2")?,
+        bytes: image,
+    })?;
     Ok(Build {
         outputs,
         report: None,

@@ -2,19 +2,12 @@
 //! boot script of a configuration.
 #![tactic(auto)]
 
+mod config;
 mod host;
-mod joined;
 pub mod laws;
 mod lines;
-mod output;
-mod outputs;
 mod prepare;
-mod reading;
 mod script;
-mod sizes;
-mod stop;
-#[cfg(test)]
-mod tests;
 mod top;
 mod words;
 

@@ -1,17 +1,15 @@
 // What a run makes before its first write.
-ghost use Rattle.std.specs.Prelude.{◌≡◌, IfOk, IfErr, All};
-ghost use Rattle.dom0less.specs.Endings.{Builds};
+ghost use Rattle.std.specs.Prelude.{◌≡◌, IfOk, IfErr};
+ghost use Rattle.run_steps.specs.Outputs.{outcome_of};
+ghost use Rattle.run_steps.specs.Stops.{IsDue};
 ghost use Rattle.dom0less.specs.Job.{IsAskedJob};
 ghost use Rattle.dom0less.specs.Meant.{meant};
-ghost use Rattle.dom0less.specs.Outputs.{files_of, report_of, HasLine};
-ghost use Rattle.dom0less.specs.Stops.{IsDue};
 
 use crate::host::{prepare_build, prepare_listing};
-use crate::output::Build;
 use crate::script::prepare_script;
-use crate::stop::Stop;
 use crate::words::Asked;
 use dl_base::Files;
+use run_steps::{Build, Stop};
 use std::alloc::Global;
 
 /// Reads the files and makes all that is to be written.
@@ -20,8 +18,7 @@ pub(crate) fn prepare<F: Files>(
     asked: &Asked<'_>,
     files: &mut F,
 ) -> Result<Build, Stop>
-    ensures built { IfOk result (λ build. IsAskedJob (F.held files.old) (meant asked.now) (Builds (files_of build) (report_of build))) }
-    ensures lines { IfOk result (λ build. All HasLine build.outputs) }
+    ensures built { IfOk result (λ build. IsAskedJob (F.held files.old) (meant asked.now) (outcome_of build)) }
     ensures stopped { IfErr result (λ stop. IsDue (IsAskedJob (F.held files.old) (meant asked.now)) (F.faults files.old, F.absents files.old, F.overlong files.old) (F.faults files.new, F.absents files.new, F.overlong files.new) stop) }
     ensures kept { F.held files.new ≡ F.held files.old }
 {

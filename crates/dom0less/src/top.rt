@@ -1,21 +1,23 @@
 // The top call.
 ghost use Rattle.std.specs.Prelude.{◌≡◌, ◌≢◌, ◌⊎◌, ◌↔◌, ◌∷◌, [], IsNone, IfSome, Some, map, string_bytes, codes};
-ghost use Rattle.dl_base.specs.Outside.{Rose, and_bytes, and_file, TookPrefix};
-ghost use Rattle.ib_script.specs.Text.{text_of};
-ghost use Rattle.dom0less.specs.Lines.{line, memory_line, file_line, unused_lines};
-ghost use Rattle.dom0less.specs.Endings.{Refuses, Builds, Said, and_files, TookUpTo};
-ghost use Rattle.dom0less.specs.Words.{settings, joined, Build, Show, Script};
+ghost use Rattle.dl_base.specs.Outside.{Rose, and_bytes, TookPrefix};
+ghost use Rattle.run_steps.specs.Messages.{memory_message, file_message};
+ghost use Rattle.run_steps.specs.Endings.{Refuses, Builds, Said, and_files, TookUpTo};
+ghost use Rattle.run_steps.specs.Laws.{AnswersUnless};
+ghost use Rattle.dom0less.specs.Lines.{line, unused_lines};
+ghost use Rattle.dom0less.specs.Words.{settings, Build, Show, Script};
 ghost use Rattle.dom0less.specs.Job.{IsJob, CallsFor};
-ghost use Rattle.dom0less.specs.Headline.{IsDescribedBuild, IsListing, IsScript};
-ghost use Rattle.dom0less.specs.Laws.{AnswersUnless};
+ghost use Rattle.dom0less.specs.Headline.{IsDescribedBuild, IsListing, IsMade};
+ghost use Rattle.dom0less.specs.Scripts.{script_file};
 
-use crate::lines::say;
-use crate::outputs::write_all;
 use crate::prepare::prepare;
-use crate::stop::Stop;
 use crate::words::read_words;
 use dl_base::{Files, Outs, Sink, Status};
+use run_steps::{Stop, say, write_all};
 use std::alloc::Global;
+
+// The program's name, with which each of its lines begins.
+const PROGRAM: &str = "dom0less";
 
 /// Builds from a ready tree, lists a tree, or writes the boot script of a configuration, as `words` say. The answer is the
 /// program's status; a line on `err` says why it is not `Built`.
@@ -42,10 +44,10 @@ pub fn run<F: Files, O: Outs, S: Sink, E: Sink>(
         × (S.taken out.new ≡ and_bytes (S.taken out.old) text) }
 
     // A script is the one output, and the names that have no effect are put.
-    ensures script { (ask : _) → settings (map string_bytes words.now) ≡ Some (Script ask) → result ≡ Status.Built → (config : _) × (commands : _)
-        × IsScript (F.held files.old) ask config commands
-        × (O.written outs.new ≡ and_file (O.written outs.old) (joined ask.outputs (codes "boot.source")) (text_of commands))
-        × (S.taken out.new ≡ and_bytes (S.taken out.old) (unused_lines config.unused)) }
+    ensures script { (ask : _) → settings (map string_bytes words.now) ≡ Some (Script ask) → result ≡ Status.Built → (made : _)
+        × IsMade (F.held files.old) ask.config ask.files ask.kind made
+        × (O.written outs.new ≡ and_files (O.written outs.old) (script_file ask.outputs made ∷ []))
+        × (S.taken out.new ≡ and_bytes (S.taken out.old) (unused_lines made.settings.unused)) }
 
     // Built: the outputs and the report that the words and the files call for were taken, and nothing was said.
     ensures built { result ≡ Status.Built → (outputs : _) × (report : _)
@@ -55,36 +57,36 @@ pub fn run<F: Files, O: Outs, S: Sink, E: Sink>(
         × (err.new ≡ err.old) }
 
     // Want of memory is answered freely, and said.
-    ensures memory { result ≡ Status.Memory → Said E.taken E.faults err.old err.new memory_line }
+    ensures memory { result ≡ Status.Memory → Said E.taken E.faults err.old err.new (line memory_message) }
 
     // The words are refused exactly where they ask for nothing.
     ensures words { (result ≡ Status.Words) ↔ IsNone (settings (map string_bytes words.now)) }
     ensures usage { result ≡ Status.Words → Said E.taken E.faults err.old err.new (line (codes "usage")) }
 
     // An item is refused, or a file's bytes are: as the files call for, with its line.
-    ensures refused { result ≡ Status.Refused → (text : _)
-        × Said E.taken E.faults err.old err.new text
-        × CallsFor (map string_bytes words.now) (F.held files.old) (Refuses result text) }
-    ensures format { result ≡ Status.Format → (text : _)
-        × Said E.taken E.faults err.old err.new text
-        × CallsFor (map string_bytes words.now) (F.held files.old) (Refuses result text) }
+    ensures refused { result ≡ Status.Refused → (message : _)
+        × Said E.taken E.faults err.old err.new (line message)
+        × CallsFor (map string_bytes words.now) (F.held files.old) (Refuses result message) }
+    ensures format { result ≡ Status.Format → (message : _)
+        × Said E.taken E.faults err.old err.new (line message)
+        × CallsFor (map string_bytes words.now) (F.held files.old) (Refuses result message) }
 
     // A file is too long: only where that count rose, and as the files call for.
-    ensures longer { result ≡ Status.Longer → (text : _)
-        × Said E.taken E.faults err.old err.new text
+    ensures longer { result ≡ Status.Longer → (message : _)
+        × Said E.taken E.faults err.old err.new (line message)
         × Rose (F.overlong files.old) (F.overlong files.new)
-        × CallsFor (map string_bytes words.now) (F.held files.old) (Refuses result text) }
+        × CallsFor (map string_bytes words.now) (F.held files.old) (Refuses result message) }
 
     // A read failed, only where the faults rose; or a name is not held, only where that count rose.
-    ensures read { result ≡ Status.Read → (text : _)
-        × Said E.taken E.faults err.old err.new text
-        × ((Rose (F.faults files.old) (F.faults files.new) × ((name : _) × (text ≡ file_line name (codes "read failed"))))
-        ⊎ (Rose (F.absents files.old) (F.absents files.new) × CallsFor (map string_bytes words.now) (F.held files.old) (Refuses result text))) }
+    ensures read { result ≡ Status.Read → (message : _)
+        × Said E.taken E.faults err.old err.new (line message)
+        × ((Rose (F.faults files.old) (F.faults files.new) × ((name : _) × (message ≡ file_message name (codes "read failed"))))
+        ⊎ (Rose (F.absents files.old) (F.absents files.new) × CallsFor (map string_bytes words.now) (F.held files.old) (Refuses result message))) }
 
     // A write failed: of the named output, before which all were taken whole, or of the report, before which all outputs were.
     ensures write { result ≡ Status.Write → (outputs : _) × (report : _) × (name : _)
         × CallsFor (map string_bytes words.now) (F.held files.old) (Builds outputs report)
-        × Said E.taken E.faults err.old err.new (file_line name (codes "write failed"))
+        × Said E.taken E.faults err.old err.new (line (file_message name (codes "write failed")))
         × ((Rose (O.faults outs.old) (O.faults outs.new)
         × TookUpTo (O.written outs.old) (O.written outs.new) outputs name
         × (out.new ≡ out.old))
@@ -105,17 +107,17 @@ pub fn run<F: Files, O: Outs, S: Sink, E: Sink>(
     ensures files_kept { F.held files.new ≡ F.held files.old }
 {
     let Some(asked) = read_words(words) else {
-        say(err, b"dom0less: usage\n");
+        say(err, PROGRAM, b"usage");
         return Status::Words;
     };
     match prepare(alloc, &asked, files) {
-        Ok(build) => write_all(&build, outs, out, err),
+        Ok(build) => write_all(PROGRAM, &build, outs, out, err),
         Err(Stop::Memory) => {
-            say(err, b"dom0less: out of memory\n");
+            say(err, PROGRAM, b"out of memory");
             Status::Memory
         }
-        Err(Stop::Because(status, text)) => {
-            say(err, text.as_slice());
+        Err(Stop::Because(status, message)) => {
+            say(err, PROGRAM, message.as_slice());
             status
         }
     }

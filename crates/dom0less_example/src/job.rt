@@ -1,6 +1,6 @@
 // A run of `dom0less` in memory.
 ghost use Rattle.std.specs.Prelude.{◌≡◌, ◌∷◌, IfOk, map, codes, string_bytes};
-ghost use Rattle.dom0less.specs.Endings.{Refuses, Builds};
+ghost use Rattle.run_steps.specs.Endings.{Refuses, Builds};
 ghost use Rattle.dom0less.specs.Job.{CallsFor};
 
 use dl_base::{Files, MemFiles, MemOuts, MemSink, Status};

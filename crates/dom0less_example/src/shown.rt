@@ -1,12 +1,16 @@
 // What an image file holds, for the eye.
 ghost use Rattle.std.specs.Prelude.{◌≡◌, ◌<◌, ◌^◌};
 
+use stage2_walk::{Image, Step, pages_spanned, read_image};
 use std::alloc::{AllocError, Global};
 use std::io;
-use stage2_walk::{Image, Step, pages_spanned, read_image};
 
 /// Shows the length of an image file and what stands in its header, and where addresses below 2^40 are walked to.
-pub(crate) fn show_image(rt: &(impl Print + AllocGlobal), bytes: &[u8], addresses: &[u64]) -> io::Result<()> {
+pub(crate) fn show_image(
+    rt: &(impl Print + AllocGlobal),
+    bytes: &[u8],
+    addresses: &[u64],
+) -> io::Result<()> {
     let Ok(image) = read_image(rt.alloc(), bytes) else {
         return println!(rt; "domU0.s2: no image");
     };

@@ -98,14 +98,17 @@ pub swept_more : (ranges : List MapRange) (range : MapRange) (done level word : 
 swept_more ranges range done level word image new sweep next is was word_is new_is next_is =
     subst (λ (n : TableImage). IsSweptTo mapping n next (range.page + (done + span level)) × (frames_of n.pages ≡ frames_of image.pages) × (n.root ≡ image.root)) (sym new_is)
     (subst (λ (s : Sweep). IsSweptTo mapping made s (range.page + (done + span level)) × (frames_of made.pages ≡ frames_of image.pages) × (made.root ≡ image.root)) (sym next_is)
-    (subst (λ (p : ℕ). IsSweptTo mapping made (leaf_sweep sweep page level) p × (frames_of made.pages ≡ frames_of image.pages) × (made.root ≡ image.root)) behind
-    (record {
-      frames = subst (HasFrames mapping) (sym frames) was.frames;
-      wide = step_wide mapping image.pages sweep leaf word is.leaf is.low was.counted was.wide;
-      counted = step_counted mapping sweep leaf is.leaf is.low was.counted;
-      written = subst (λ (fs : List ℕ). IsWrittenTo mapping fs pages (page + span level) 1) (sym frames)
-          (step_written mapping (frames_of image.pages) image.pages sweep leaf word was.frames refl is.leaf is.low was.counted was.written (word_is ∙ is.word (frames_of image.pages)));
-    }, frames, refl)))
+    (subst (λ (p : ℕ). IsSweptTo mapping made (leaf_sweep sweep page level) p × (frames_of made.pages ≡ frames_of image.pages) × (made.root ≡ image.root)) behind (
+      record {
+        frames = subst (HasFrames mapping) (sym frames) was.frames;
+        wide = step_wide mapping image.pages sweep leaf word is.leaf is.low was.counted was.wide;
+        counted = step_counted mapping sweep leaf is.leaf is.low was.counted;
+        written = subst (λ (fs : List ℕ). IsWrittenTo mapping fs pages (page + span level) 1) (sym frames)
+            (step_written mapping (frames_of image.pages) image.pages sweep leaf word was.frames refl is.leaf is.low was.counted was.written (word_is ∙ is.word (frames_of image.pages)));
+      },
+      frames,
+      refl,
+    )))
   where
     mapping : Map
     mapping = target_of ranges

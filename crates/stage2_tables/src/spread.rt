@@ -82,7 +82,13 @@ pub fn spread_range(image: &mut Image, sweep: &mut Sweep, ranges: &[MapRange], i
         let frame = range.first + done;
         let left = range.count - done;
         let level = leaf_level(page, frame, left);
-        add_leaf(image, sweep, page, level, leaf_word(level, frame, range.kind));
+        add_leaf(
+            image,
+            sweep,
+            page,
+            level,
+            leaf_word(level, frame, range.kind),
+        );
         let begin = done + pages_spanned(level);
         let end = done + stretch(level, page, left);
         spread_pages(image, sweep, ranges, index, begin, end);

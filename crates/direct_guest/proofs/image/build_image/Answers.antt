@@ -11,7 +11,7 @@ use Rattle.stage2_tables.specs.Translation.{TranslatesAs, IsComplete}
 use Rattle.stage2_tables.specs.Least.{least_image}
 use Rattle.stage2_tables.specs.Draws.{table_frames}
 use Rattle.direct_guest.specs.Guests.{guest_map}
-use Rattle.direct_guest.specs.Images.{drawn_frames, guest_tables}
+use Rattle.direct_guest.specs.Images.{guest_tables}
 use Rattle.direct_guest.proofs.PlaceLemmas.{no_frame, no_pair}
 use Rattle.direct_guest.proofs.image.build_image.Goals as goal
 

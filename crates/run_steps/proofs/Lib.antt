@@ -1,0 +1,6 @@
+pub mod Step
+pub mod Readings
+pub mod ReadingSteps
+pub mod OneOutcome
+pub mod Due
+pub mod Taken

@@ -1,0 +1,25 @@
+-- The words and the files call for one outcome, and a run answers it.
+use Rattle.std.specs.Prelude.{◌≡◌, ◌⊎◌}
+use Rattle.dl_base.specs.declared.status.Status.{Status}
+use Rattle.dl_base.specs.declared.status.Status.TheVariants as statuses
+use Rattle.run_steps.specs.Endings.{Outcome, Refuses, Builds}
+
+-- two outcomes refuse with one status and one message, or both build with one report
+abbrev pub Agree : Outcome → Outcome → Type 0
+Agree (Refuses status message) (Refuses other_status other_message) = (status ≡ other_status) × (message ≡ other_message)
+Agree (Builds outputs report) (Builds other_outputs other_report) = report ≡ other_report
+Agree (Refuses status message) (Builds outputs report) = ⊥
+Agree (Builds outputs report) (Refuses status message) = ⊥
+
+-- what is called for is one outcome
+abbrev pub IsDetermined : (Outcome → Type 0) → Type 0
+IsDetermined called = (one other : Outcome) → called one → called other → Agree one other
+
+-- the status answers the outcome: that of the refusal, or that all was written or a write failed
+abbrev pub Answers : Status → Outcome → Type 0
+Answers status (Refuses wanted message) = status ≡ wanted
+Answers status (Builds outputs report) = (status ≡ statuses.Built) ⊎ (status ≡ statuses.Write)
+
+-- it does, unless a read failed or memory ran out
+abbrev pub AnswersUnless : Type 0 → Status → Outcome → Type 0
+AnswersUnless failed status outcome = failed ⊎ ((status ≡ statuses.Memory) ⊎ Answers status outcome)

@@ -1,0 +1,62 @@
+// Reading a flattened tree (Devicetree Specification 0.4, chapter 5).
+ghost use Rattle.std.specs.Prelude.{◌≡◌, IfOk, IfErr};
+ghost use Rattle.fdt_read.specs.FaultTexts.{fault_text};
+ghost use Rattle.run_steps.specs.Messages.{file_message};
+ghost use Rattle.run_steps.specs.Steps.{nothing};
+ghost use Rattle.run_steps.specs.Trees.{flat_tree, IsFlattened, AfterTree, AfterTreeFile, IsTreeFile};
+ghost use Rattle.run_steps.specs.Stops.{IsDue, IsOwnDue, Grew};
+
+use crate::messages::make_file_message;
+use crate::reading::read_file;
+use crate::stop::Stop;
+use dl_base::{Bytes, Files, Status};
+use fdt_read::{FdtFault, Flat, read};
+use std::alloc::{AllocError, Global};
+
+// The longest tree that is read, in bytes.
+const TREE_LIMIT: u64 = 1_048_576;
+
+/// What a tree's file says, and how many bytes it has.
+#[derive(Drop)]
+pub struct TreeFile {
+    /// The tree, its reservations and the processor that boots.
+    pub flat: Flat,
+    /// The length of the file, in bytes.
+    pub length: u64,
+}
+
+/// What the tree's file of this name says, which has at most 1 MiB. A file that cannot be read stops the run, and so do bytes
+/// that spell no tree, whose first fault is named.
+pub fn read_tree<F: Files>(alloc: Global, name: &str, files: &mut F) -> Result<TreeFile, Stop>
+    ensures read { IfOk result (λ tree. IsTreeFile (F.held files.old) name.now (flat_tree tree)) }
+    ensures stopped { IfErr result (λ stop. IsDue (AfterTreeFile (F.held files.old) name.now nothing) (F.faults files.old, F.absents files.old, F.overlong files.old) (F.faults files.new, F.absents files.new, F.overlong files.new) stop) }
+    ensures grew { Grew (F.faults files.old, F.absents files.old, F.overlong files.old) (F.faults files.new, F.absents files.new, F.overlong files.new) }
+    ensures kept { F.held files.new ≡ F.held files.old }
+{
+    let bytes = read_file(alloc, name, TREE_LIMIT, files)?;
+    read_flattened(alloc, name, &bytes)
+}
+
+/// What the bytes of a tree's file say.
+fn read_flattened(alloc: Global, name: &str, bytes: &[u8]) -> Result<TreeFile, Stop>
+    ensures read { IfOk result (λ tree. IsFlattened bytes.now (flat_tree tree)) }
+    ensures stopped { IfErr result (λ stop. IsOwnDue (AfterTree name.now bytes.now nothing) stop) }
+{
+    match read(alloc, bytes) {
+        Ok(flat) => Ok(TreeFile {
+            flat,
+            length: bytes.len() as u64,
+        }),
+        Err(FdtFault::Memory) => Err(Stop::Memory),
+        Err(fault) => Err(Stop::Because(Status::Format, make_fault_message(alloc, name, &fault)?)),
+    }
+}
+
+/// What is said about a file that is no flattened tree.
+fn make_fault_message(alloc: Global, name: &str, fault: &FdtFault) -> Result<Bytes, AllocError>
+    ensures { IfOk result (λ message. message ≡ file_message name.now (fault_text fault.now)) }
+{
+    let mut text = Bytes::new(alloc);
+    fault.append_text(alloc, &mut text)?;
+    make_file_message(alloc, name, text.as_slice())
+}
