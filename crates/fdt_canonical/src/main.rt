@@ -6,8 +6,6 @@ mod canonical;
 mod refusal;
 mod run;
 mod shown;
-#[cfg(test)]
-mod tests;
 
 use crate::run::run;
 use std::process::ExitCode;

@@ -1,4 +1,4 @@
--- The nodes that a walk over the tokens of a tree is in, by their paths, the innermost first.
+-- For proofs and private contracts alone: the nodes that a walk over the tokens of a tree is in, by their paths, the innermost first.
 use Rattle.std.specs.Prelude.{ℕ, List, [], ◌∷◌, Some, take, drop, codes}
 use Rattle.fdt_tree.specs.Tree.{Bytes}
 use Rattle.fdt_read.specs.Tokens.{Token, begin_node, end_node, property}

@@ -4,7 +4,5 @@
 mod lines;
 mod listing;
 mod opened;
-#[cfg(test)]
-mod tests;
 
 pub use listing::list;

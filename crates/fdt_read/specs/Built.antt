@@ -1,4 +1,4 @@
--- What the reader's own functions say of each other: what is built from the tokens so far.
+-- For proofs and private contracts alone: what is built from the tokens so far.
 use Rattle.std.specs.Prelude.{◌≡◌, ℕ, zero, suc, ◌<◌, ◌≤◌, Bool, true, false, ◌==◌, not, ◌&&◌, List, [], ◌∷◌, ◌++◌, Option, Some, None, IfSome, option_map, count_by, length}
 use Rattle.std.specs.List.{list_all}
 use Rattle.fdt_tree.specs.Tree.{Bytes, Trees, none, tree, Tree, Place, at, depth, depth_limit}

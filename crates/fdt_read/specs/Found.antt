@@ -1,4 +1,4 @@
--- The token that a piece of the input is.
+-- For proofs and private contracts alone: the token that a piece of the input is.
 use Rattle.std.specs.Prelude.{option_copied}
 use Rattle.fdt_read.specs.declared.tokens.Found.{Found}
 use Rattle.fdt_read.specs.declared.tokens.Found.TheVariants.{Begin, EndNode, Property, Nop, End, Broken}

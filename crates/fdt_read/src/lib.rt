@@ -9,8 +9,6 @@ mod header;
 pub mod laws;
 mod reservations;
 mod structure;
-#[cfg(test)]
-mod tests;
 mod token_fault;
 mod tokens;
 mod words;

@@ -1,8 +1,8 @@
--- A tree held as a list of nodes, each with the number of its parent, is what adding them one by one gives.
+-- For proofs, private contracts and the model of `Tree` alone: a tree held as a list of nodes, each with the number of its parent, is what adding them one by one gives.
 use Rattle.std.specs.Prelude.{◌≡◌, IsTrue, ℕ, zero, suc, ◌+◌, ◌<◌, ◌≢◌, ◌≤◌, slice_get, option_map, Some, List, [], ◌∷◌, ◌++◌, fold, map, length, refl}
 use Rattle.std.specs.Coded.{Coded, code_by, coded_list, coded×, coded_ℕ}
 use Rattle.fdt_tree.specs.Tree.{Bytes, Property, Tree, Place, count, depth, depth_limit, is_node_name}
-use Rattle.fdt_tree.specs.Code.{coded_tree}
+use Rattle.fdt_tree.specs.CodedTrees.{coded_tree}
 use Rattle.fdt_tree.specs.Document.{Document, empty, place_of, node_at, with_node, with_properties, have_names}
 use Rattle.fdt_tree.specs.declared.node.Node.{Node}
 

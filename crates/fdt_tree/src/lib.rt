@@ -11,8 +11,6 @@ mod pieces;
 mod properties;
 mod reserve;
 mod settings;
-#[cfg(test)]
-mod tests;
 mod tree;
 mod values;
 mod walk;

@@ -1,5 +1,5 @@
 -- Names that are added, and their offsets.
-use Rattle.std.proofs.Common.{◌≡◌, ℕ, ◌+◌, Bool, true, false, cond, ◌||◌, List, [], ◌∷◌, ◌++◌, Option, Some, None, length, map, Bor, refl, sym, ap, ◌∙◌, subst, arith, length-append}
+use Rattle.std.proofs.Common.{◌≡◌, ℕ, ◌+◌, Bool, true, false, cond, ◌||◌, List, [], ◌∷◌, ◌++◌, Option, Some, None, length, Bor, refl, sym, ap, ◌∙◌, subst, arith, length-append}
 use Rattle.std.specs.BTreeMap.{BTreeMap, get, Updates}
 use Rattle.std.specs.Str.{bytes_eq}
 use Rattle.std.specs.Option.{is_some}
@@ -37,7 +37,7 @@ offset_after-last (first ∷ rest) start name q absent =
     let shift : (names : List Bytes) → start + (length first + 1 + offset_in names q) ≡ onward + offset_in names q = λ names. omega arith in
     elim (bytes_eq first q) as (λ b. bytes_eq first q ≡ b → cond (b || is_among more q) (Some (saturated (start + cond b 0 (length first + 1 + offset_in more q)))) None ≡ cond (bytes_eq name q) (Some (saturated (start + length (strings_of (first ∷ rest))))) (cond (b || is_among rest q) (Some (saturated (start + cond b 0 (length first + 1 + offset_in rest q)))) None)) [
       | true ↦ λ same. let other : bytes_eq name q ≡ false = ap (bytes_eq name) (sym ((bytes_eq-Decides first q).0 same)) ∙ (bytes_eq-swap name first ∙ parts.0) in
-      sym (cond-false (bytes_eq name q) (Some (saturated (start + length (strings_of (first ∷ rest))))) (Some (saturated (start + 0))) other)
+          sym (cond-false (bytes_eq name q) (Some (saturated (start + length (strings_of (first ∷ rest))))) (Some (saturated (start + 0))) other)
       | false ↦ λ other. ap (λ n. cond (is_among more q) (Some (saturated n)) None) (shift more) ∙ (offset_after-last rest onward name q parts.1 ∙ (ap (λ n. cond (bytes_eq name q) (Some (saturated n)) (offset_after onward rest q)) block ∙ ap (λ n. cond (bytes_eq name q) (Some (saturated (start + length (strings_of (first ∷ rest))))) (cond (is_among rest q) (Some (saturated n)) None)) (sym (shift rest))))
     ] refl
 

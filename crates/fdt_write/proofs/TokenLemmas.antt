@@ -5,7 +5,7 @@ use Rattle.std.proofs.lemmas.List.Concat.{flat_map-append}
 use Rattle.std.proofs.lemmas.List.Folds.{flat_map-map}
 use Rattle.fdt_tree.specs.Tree.{Bytes, Property, Trees, none, tree, Tree, Place}
 use Rattle.fdt_tree.specs.Document.{Document, name_of, properties_of}
-use Rattle.fdt_tree.specs.Visits.{Seen, begins, ends, visits_below, visits, entered, seen, IsLive}
+use Rattle.fdt_tree.specs.Visits.{Seen, ends, visits_below, visits, entered, seen, IsLive}
 use Rattle.fdt_tree.specs.declared.walk.Visit.{Visit}
 use Rattle.fdt_tree.specs.declared.walk.Visit.TheVariants.{Enter, Leave}
 use Rattle.fdt_read.specs.Tokens.{Token, begin_node, end_node, property, end}

@@ -1,5 +1,5 @@
 -- For proofs, private contracts and the model of `TreeTokens` alone: the tokens of a tree that are left.
-use Rattle.std.specs.Prelude.{◌<◌, ⊤, ℕ, List, [], ◌∷◌, ◌++◌, All, drop, flat_map, length}
+use Rattle.std.specs.Prelude.{◌<◌, ⊤, List, [], ◌∷◌, ◌++◌, All, drop, flat_map, length}
 use Rattle.fdt_tree.specs.Document.{Document, properties_of}
 use Rattle.fdt_tree.specs.Visits.{Seen, begins, ends, seen, IsLive}
 use Rattle.fdt_tree.specs.declared.walk.Visit.{Visit}

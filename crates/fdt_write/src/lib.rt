@@ -7,8 +7,6 @@ mod flat;
 pub mod laws;
 mod names;
 mod sizes;
-#[cfg(test)]
-mod tests;
 mod tree_tokens;
 
 pub use fault::WriteFault;

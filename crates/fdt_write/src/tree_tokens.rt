@@ -75,10 +75,7 @@ fn visited<'a>(tree: &'a Tree, visit: Visit) -> (TreeToken<'a>, Step)
     ensures live { HasLiveNode tree.now result.1 }
 {
     match visit.entered() {
-        Some(node) => (
-            TreeToken::BeginNode(tree.name(node)),
-            Step::Inside(node, 0),
-        ),
+        Some(node) => (TreeToken::BeginNode(tree.name(node)), Step::Inside(node, 0)),
         None => (TreeToken::EndNode, Step::Between),
     }
 }
@@ -96,11 +93,7 @@ fn next_visited<'a>(tree: &'a Tree, walk: &mut Walk<'a>) -> (TreeToken<'a>, Step
 }
 
 /// The next token, and where the tokens stand after it; none after END.
-fn next_token<'a>(
-    tree: &'a Tree,
-    walk: &mut Walk<'a>,
-    step: Step,
-) -> Option<(TreeToken<'a>, Step)>
+fn next_token<'a>(tree: &'a Tree, walk: &mut Walk<'a>, step: Step) -> Option<(TreeToken<'a>, Step)>
     requires { AreLive tree.now walk.old step }
     ensures token { IfSome result (λ next. left_at tree.now walk.old step ≡ meaning next.0 ∷ left_at tree.now walk.new next.1) }
     ensures live { IfSome result (λ next. AreLive tree.now walk.new next.1) }
