@@ -1,0 +1,174 @@
+//! The program's command, as `clap` reads it.
+ghost use Rattle.std.specs.Prelude.{◌≡◌, IfOk, IfErr, map, fold, string_bytes, true, false, codes};
+ghost use Rattle.std.specs.Option.{option_copied};
+ghost use Rattle.clap.specs.Words.{app_of, new_app, with_rule, rule_of, first_of, found_of, rows_of, kind_of};
+ghost use Rattle.clap.specs.declared.error.kind.ErrorKind.TheVariants.{OutOfMemory};
+ghost use Rattle.dom0less_words.specs.Command.{command, letters, names, is_taken, lettered, named, flag, options, options_in, is_set};
+ghost use Rattle.dom0less_words.specs.KeptOptions.{meant_options};
+
+use crate::options::Options;
+use clap::{Arg, ArgAction, ArgMatches, Command, Error};
+use std::alloc::{AllocError, Global};
+
+/// The options that the words give, the program's name first.
+pub(crate) fn find_options<'a>(alloc: Global, words: &'a [String]) -> Result<Options<'a>, Error>
+    ensures taken { IfOk result (λ found. is_taken (map string_bytes words.now) ≡ true) }
+    ensures found { IfOk result (λ found. meant_options found ≡ options (map string_bytes words.now)) }
+    ensures refused { IfErr result (λ error. is_taken (map string_bytes words.now) ≡ true → kind_of error ≡ OutOfMemory) }
+{
+    let command = make_command(alloc)?;
+    match command.try_get_matches_from(words) {
+        Ok(matches) => Ok(options_in(&matches)),
+        Err(error) => Err(error),
+    }
+}
+
+/// What `-d` is for.
+const FILES_HELP: &str = "Where the files of a configuration or script are";
+
+/// What `-w` is for.
+const OUTPUTS_HELP: &str = "Where outputs go, or with --check where images are";
+
+/// What `-t` is for.
+const KIND_HELP: &str = "Where the script loads files from: tftp, sd, scsi or usb [default: tftp]";
+
+/// What `--gen` is for.
+const GENERATED_HELP: &str = "Build the tree that is generated for a number, 0 to 1,000,000";
+
+/// What the program is for, as its help begins.
+const ABOUT: &str =
+    "Prepares and checks dom0less boots of Xen: boot scripts, device trees and stage-2 tables of guests";
+
+/// The modes, the options that go with each, and an example, as the help ends.
+const AFTER_HELP: &str = "Modes, of which exactly one is given:
+  -c CONFIG          Make the boot script of a configuration, run it on the host tree, and build
+  -r SCRIPT -b TREE  Run a boot script on the host tree, and build
+  -b TREE            Build from a ready host tree
+  --show TREE        List a tree
+  --gen N            Build the tree that is generated for N, and write nothing
+
+-d goes with -c and -r, -t and --script-only with -c, -w and --check with the first three modes; --check does not go with --script-only.
+
+Example:
+  dom0less -c boot.cfg -d /srv/tftp -w out";
+
+/// The command, without its options.
+fn new_command<'a>(alloc: Global) -> Command<'a>
+    ensures { app_of result ≡ new_app (codes "dom0less") }
+{
+    Command::new(alloc, "dom0less")
+        .about(ABOUT)
+        .after_help(AFTER_HELP)
+}
+
+/// The command with the options that have a letter.
+fn with_letters<'a>(alloc: Global, command: Command<'a>) -> Result<Command<'a>, AllocError>
+    ensures { IfOk result (λ made. app_of made ≡ fold with_rule (app_of command.entry) letters) }
+{
+    let made = command
+        .arg(lettered(alloc, "config", 'c', "CONFIG", "Build from a configuration"))?
+        .arg(lettered(
+            alloc,
+            "script",
+            'r',
+            "SCRIPT",
+            "Run a boot script on the tree of -b, and build",
+        ))?
+        .arg(lettered(
+            alloc,
+            "tree",
+            'b',
+            "TREE",
+            "The host tree; alone: build from it as it is",
+        ))?
+        .arg(lettered(alloc, "files", 'd', "DIR", FILES_HELP))?
+        .arg(lettered(alloc, "outputs", 'w', "DIR", OUTPUTS_HELP))?
+        .arg(lettered(alloc, "kind", 't', "KIND", KIND_HELP))?;
+    Ok(made)
+}
+
+/// The command with the options that have a name.
+fn with_names<'a>(alloc: Global, command: Command<'a>) -> Result<Command<'a>, AllocError>
+    ensures { IfOk result (λ made. app_of made ≡ fold with_rule (app_of command.entry) names) }
+{
+    let made = command
+        .arg(flag(alloc, "script-only", "Write boot.source and stop"))?
+        .arg(flag(alloc, "check", "Audit images in place of writing them"))?
+        .arg(named(alloc, "show", "TREE", "List a tree"))?
+        .arg(named(alloc, "gen", "N", GENERATED_HELP))?;
+    Ok(made)
+}
+
+/// The command.
+fn make_command<'a>(alloc: Global) -> Result<Command<'a>, AllocError>
+    ensures { IfOk result (λ made. app_of made ≡ command) }
+{
+    let lettered = with_letters(alloc, new_command(alloc))?;
+    let made = with_names(alloc, lettered)?;
+    Ok(made)
+}
+
+/// An option of one letter.
+fn lettered<'a>(alloc: Global, id: &'a str, letter: char, value: &'a str, help: &'a str) -> Arg<'a>
+    ensures rule { rule_of result ≡ lettered id.entry.now letter }
+    ensures local { result.global ≡ false }
+{
+    Arg::new(alloc, id)
+        .short(letter)
+        .value_name(value)
+        .help(help)
+}
+
+/// An option with a value.
+fn named<'a>(alloc: Global, id: &'a str, value: &'a str, help: &'a str) -> Arg<'a>
+    ensures rule { rule_of result ≡ named id.entry.now }
+    ensures local { result.global ≡ false }
+{
+    Arg::new(alloc, id).long(id).value_name(value).help(help)
+}
+
+/// A flag.
+fn flag<'a>(alloc: Global, id: &'a str, help: &'a str) -> Arg<'a>
+    ensures rule { rule_of result ≡ flag id.entry.now }
+    ensures local { result.global ≡ false }
+{
+    Arg::new(alloc, id)
+        .long(id)
+        .action(ArgAction::SetTrue)
+        .help(help)
+}
+
+/// The options in these matches.
+fn options_in<'a>(matches: &ArgMatches<'a>) -> Options<'a>
+    ensures { meant_options result ≡ options_in (rows_of (found_of matches.now)) }
+{
+    Options {
+        config: value_of(matches, "config"),
+        script: value_of(matches, "script"),
+        tree: value_of(matches, "tree"),
+        files: value_of(matches, "files"),
+        outputs: value_of(matches, "outputs"),
+        kind: value_of(matches, "kind"),
+        script_only: is_set(matches, "script-only"),
+        check: is_set(matches, "check"),
+        show: value_of(matches, "show"),
+        generate: value_of(matches, "gen"),
+    }
+}
+
+/// The value of an option, where it was given.
+fn value_of<'a>(matches: &ArgMatches<'a>, id: &str) -> Option<&'a str>
+    ensures { option_copied result ≡ first_of id.now (rows_of (found_of matches.now)) }
+{
+    matches.get_str(id)
+}
+
+/// The flag was given.
+fn is_set(matches: &ArgMatches<'_>, id: &str) -> bool
+    ensures { result ≡ is_set id.now (rows_of (found_of matches.now)) }
+{
+    match value_of(matches, id) {
+        Some(value) => value == "true",
+        None => false,
+    }
+}
