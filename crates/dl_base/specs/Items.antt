@@ -52,7 +52,6 @@ why_name (whys.NoRam needed free) = codes "NoRam"
 why_name (whys.NoTableFrame needed free) = codes "NoTableFrame"
 why_name (whys.TreeTooLong bytes) = codes "TreeTooLong"
 why_name (whys.Twice other) = codes "Twice"
-why_name whys.NotBuiltYet = codes "NotBuiltYet"
 
 -- after a space each, the other item or the numbers that a reason names
 abbrev pub why_detail : Why → List ℕ

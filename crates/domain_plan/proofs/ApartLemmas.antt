@@ -16,7 +16,7 @@ use Rattle.frame_alloc.proofs.FreeFrames.{is_in_nil, is_in_cons, AreFramesFrom-w
 use Rattle.frame_alloc.proofs.AscendingFrames.{AreFrames-frames_in}
 use Rattle.domain_plan.specs.declared.described.Guest.{Guest}
 use Rattle.domain_bindings.specs.declared.host.Host.{Host}
-use Rattle.domain_plan.specs.declared.described.Loaded2.{Loaded2}
+use Rattle.dl_base.specs.declared.loaded.Loaded.{Loaded}
 use Rattle.frame_ranges.specs.Ranges.{holds}
 use Rattle.domain_plan.specs.Entries.{Entry, joined}
 use Rattle.domain_plan.specs.Taken.{Passed, what_of, belongs_to, all_passed}
@@ -101,7 +101,7 @@ not_two one other p q apart mine theirs same = by_guest p.entry.guest refl
         by_numbers number a b (inr h) k = not_both _ a h.0
 
 -- the parts of an outcome without a refusal
-pub outcome_tells : (host : Host) (loads : List Loaded2) (guests : List Guest) (all : Heaps) → outcome host loads guests ≡ Ok all →
+pub outcome_tells : (host : Host) (loads : List Loaded) (guests : List Guest) (all : Heaps) → outcome host loads guests ≡ Ok all →
     (first_refused host.ram [] (joined host loads guests) ≡ None) × (heaps guests (free_frames host.ram (passed_of host loads guests)) ≡ Ok all)
 unfolding outcome
 outcome_tells host loads guests all is = by_refused (first_refused host.ram [] (joined host loads guests)) refl is

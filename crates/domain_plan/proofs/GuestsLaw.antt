@@ -11,7 +11,7 @@ use Rattle.dl_base.specs.declared.item.What.{What}
 use Rattle.dl_base.specs.declared.item.What.TheVariants as whats
 use Rattle.domain_plan.specs.declared.described.Guest.{Guest}
 use Rattle.domain_bindings.specs.declared.host.Host.{Host}
-use Rattle.domain_plan.specs.declared.described.Loaded2.{Loaded2}
+use Rattle.dl_base.specs.declared.loaded.Loaded.{Loaded}
 use Rattle.frame_ranges.specs.Ranges.{holds, touched}
 use Rattle.domain_plan.specs.Entries.{Entry, joined}
 use Rattle.domain_plan.specs.Taken.{Passed, what_of, belongs_to, is_direct, is_repeated, pages_before, bank_pages, pages_of, all_passed}
@@ -75,7 +75,7 @@ own_apart front mine pages = by_what (what_of mine) refl
 head_pages : (front : List Passed) (p : Passed) (guest : Guest) → p.pages ≡ pages_of front p.entry → what_of p ≡ head_of guest.domain → p.pages ≡ bank_pages 0 guest.domain.pages
 head_pages front p guest pages says = rw says at pages
 
-pub sound_guest : (host : Host) (loads : List Loaded2) (guests : List Guest) → AreRead host loads guests → first_refused host.ram [] (joined host loads guests) ≡ None → (number : ℕ) (guest : Guest) → slice_get guests number ≡ Some guest → IsSoundGuest guest
+pub sound_guest : (host : Host) (loads : List Loaded) (guests : List Guest) → AreRead host loads guests → first_refused host.ram [] (joined host loads guests) ≡ None → (number : ℕ) (guest : Guest) → slice_get guests number ≡ Some guest → IsSoundGuest guest
 sound_guest host loads guests read none number guest at =
     let all = read.guests_sound (no_own host.ram [] (joined host loads guests) none) in
     subst IsSoundGuest (get_or_from_slice_get guests number guest guest at) (all number guest (slice_get_within guests number guest at))
@@ -95,7 +95,7 @@ entry_at : (entries : List Entry) (k : ℕ) (p : Passed) → slice_get (all_pass
 entry_at entries k p at =
     ap (λ (xs : List Entry). slice_get xs k) (sym (entries_passed [] entries)) ∙ slice_get-map (λ (one : Passed). one.entry) (all_passed [] entries) k ∙ ap (option_map (λ (one : Passed). one.entry)) at
 
-pub guests_apart : (host : Host) (loads : List Loaded2) (guests : List Guest) (all : Heaps) → AreRead host loads guests → first_refused host.ram [] (joined host loads guests) ≡ None → heaps guests (free_frames host.ram (passed_of host loads guests)) ≡ Ok all →
+pub guests_apart : (host : Host) (loads : List Loaded) (guests : List Guest) (all : Heaps) → AreRead host loads guests → first_refused host.ram [] (joined host loads guests) ≡ None → heaps guests (free_frames host.ram (passed_of host loads guests)) ≡ Ok all →
     (number : ℕ) (drawn : List FrameRange) → slice_get all.drawn number ≡ Some drawn → AreApart (guest_ranges (passed_of host loads guests) number drawn)
 unfolding guest_ranges
 guests_apart host loads guests all read none drew number drawn at =
@@ -152,7 +152,7 @@ guests_apart host loads guests all read none drew number drawn at =
         before_it head.at found.place own.0 found.mine head.guest page c.0 head.before own.1 found.at c.1 n.mapping says of_guest (guest_belongs number own.0 guest) held n.filled
 
 -- the law
-pub guests_are_apart : (host : Host) (loads : List Loaded2) (guests : List Guest) → AreRead host loads guests → GuestsAreApart host loads guests
+pub guests_are_apart : (host : Host) (loads : List Loaded) (guests : List Guest) → AreRead host loads guests → GuestsAreApart host loads guests
 guests_are_apart host loads guests read all is =
     let parts = outcome_tells host loads guests all is in
     record {

@@ -18,7 +18,7 @@ use Rattle.domain_plan.specs.Refusals.{or_later, first_refused, first_there, cro
 use Rattle.std.specs.Option.{option_or}
 use Rattle.dl_base.specs.declared.why.Why.{Why}
 use Rattle.domain_bindings.specs.declared.host.Host.{Host}
-use Rattle.domain_plan.specs.declared.described.Loaded2.{Loaded2}
+use Rattle.dl_base.specs.declared.loaded.Loaded.{Loaded}
 use Rattle.domain_plan.proofs.MapLemmas.{total}
 
 total-append : (xs ys : List FrameRange) → total (xs ++ ys) ≡ total xs + total ys
@@ -210,7 +210,7 @@ head_in number (guest ∷ guests) k m entry at is =
         )
 
 -- the head of a guest's item among all entries
-pub head_joined : (host : Host) (loads : List Loaded2) (guests : List Guest) (k m : ℕ) (entry : Entry) → slice_get (joined host loads guests) k ≡ Some entry → entry.guest ≡ Some m → HasHead (joined host loads guests) guests m m k
+pub head_joined : (host : Host) (loads : List Loaded) (guests : List Guest) (k m : ℕ) (entry : Entry) → slice_get (joined host loads guests) k ≡ Some entry → entry.guest ≡ Some m → HasHead (joined host loads guests) guests m m k
 head_joined host loads guests k m entry at is = by_part (split_get front (guest_entries 0 guests) k entry at)
   where
     front : List Entry

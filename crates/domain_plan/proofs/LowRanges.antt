@@ -19,7 +19,7 @@ use Rattle.frame_alloc.proofs.FreeFrames.{AreFramesFrom-member}
 use Rattle.frame_alloc.proofs.Without.{is_within-in}
 use Rattle.domain_plan.specs.declared.described.Guest.{Guest}
 use Rattle.domain_bindings.specs.declared.host.Host.{Host}
-use Rattle.domain_plan.specs.declared.described.Loaded2.{Loaded2}
+use Rattle.dl_base.specs.declared.loaded.Loaded.{Loaded}
 use Rattle.frame_ranges.specs.Ranges.{holds, touched, cut, between}
 use Rattle.domain_plan.specs.Entries.{Entry, of_host, of_guest, guest_entries, joined, load_item, is_read, items_of}
 use Rattle.domain_plan.specs.Taken.{Passed, what_of, belongs_to, static_pages, is_direct, pages_before, is_repeated, bank_pages, bank_size, pages_of, passing, all_passed}
@@ -113,7 +113,7 @@ sound_among first zero number (g ∷ gs) guest is at sound =
 sound_among first (suc k) number (g ∷ gs) guest is at sound = sound_among (first + 1) k number gs guest (omega arith) at (sound_right (own_entries first g) (guest_entries (first + 1) gs) sound)
 
 -- the items of a guest are sound
-pub own_sound : (host : Host) (loads : List Loaded2) (guests : List Guest) (number : ℕ) (guest : Guest) → has_no_fault (joined host loads guests) ≡ true → AreSound (joined host loads guests) → slice_get guests number ≡ Some guest → AllSound (own_entries number guest)
+pub own_sound : (host : Host) (loads : List Loaded) (guests : List Guest) (number : ℕ) (guest : Guest) → has_no_fault (joined host loads guests) ≡ true → AreSound (joined host loads guests) → slice_get guests number ≡ Some guest → AllSound (own_entries number guest)
 own_sound host loads guests number guest none sound at =
     sound_among 0 number number guests guest (omega arith) at (sound_right (of_host host.items ++ of_host (map load_item loads) ++ of_host host.modules) (guest_entries 0 guests) (sound_all (joined host loads guests) none sound))
 

@@ -10,7 +10,7 @@ use Rattle.dl_base.specs.declared.item.Described.{Described}
 use Rattle.dl_base.specs.declared.item.What.{What}
 use Rattle.domain_bindings.specs.declared.host.Host.{Host}
 use Rattle.domain_plan.specs.declared.described.Guest.{Guest}
-use Rattle.domain_plan.specs.declared.described.Loaded2.{Loaded2}
+use Rattle.dl_base.specs.declared.loaded.Loaded.{Loaded}
 use Rattle.frame_ranges.specs.Ranges.{holds}
 use Rattle.frame_ranges.proofs.CommonFrames.{true_or_false, not_both}
 use Rattle.domain_plan.specs.Entries.{of_guest, is_read, items_of}
@@ -116,7 +116,7 @@ same_memories number guest passed own same =
     ∙ ap (λ (k : ℕ). cond (is_direct own (Some number)) (said_by own number static_memory) (banks_filled (guest.domain.pages + k))) (same_static number passed own same)
 
 -- the law
-pub memory_is_mapped : (host : Host) (loads : List Loaded2) (guests : List Guest) → AreRead host loads guests → MemoryIsMapped host loads guests
+pub memory_is_mapped : (host : Host) (loads : List Loaded) (guests : List Guest) → AreRead host loads guests → MemoryIsMapped host loads guests
 memory_is_mapped host loads guests read all number guest drawn is at at_drawn kinds page =
     let parts = outcome_tells host loads guests all is in
     let own = own_items host loads guests number guest at in

@@ -14,7 +14,7 @@ use Rattle.dl_base.specs.declared.item.What.{What}
 use Rattle.dl_base.specs.declared.item.What.TheVariants as whats
 use Rattle.domain_plan.specs.declared.described.Guest.{Guest}
 use Rattle.domain_bindings.specs.declared.host.Host.{Host}
-use Rattle.domain_plan.specs.declared.described.Loaded2.{Loaded2}
+use Rattle.dl_base.specs.declared.loaded.Loaded.{Loaded}
 use Rattle.domain_plan.specs.declared.planned.GuestPlan.{GuestPlan}
 use Rattle.frame_ranges.specs.Ranges.{touched, cut}
 use Rattle.domain_plan.specs.Entries.{Entry, of_host, of_guest, guest_entries, load_item, is_read, items_of}
@@ -176,7 +176,7 @@ own_among first (suc k) number before (g ∷ gs) guest is at =
     ∙ own_all number (all_passed before (own_entries first g)) before (own_entries number guest) (own_others number before (own_entries first g) (others_block number first (is_read g.partial) (items_of g) (λ same. omega arith)))
 
 -- among all items, those of a guest are as though there were no others
-pub own_items : (host : Host) (loads : List Loaded2) (guests : List Guest) (number : ℕ) (guest : Guest) → slice_get guests number ≡ Some guest →
+pub own_items : (host : Host) (loads : List Loaded) (guests : List Guest) (number : ℕ) (guest : Guest) → slice_get guests number ≡ Some guest →
     own_of number (passed_of host loads guests) ≡ own_of number (own_passed number guest)
 own_items host loads guests number guest at =
     ap (own_of number) (all_passed-append [] front (guest_entries 0 guests))

@@ -9,7 +9,7 @@ use Rattle.dl_base.specs.declared.item.Described.{Described}
 use Rattle.dl_base.specs.declared.why.Why.TheVariants.{NoRam}
 use Rattle.domain_plan.specs.declared.described.Guest.{Guest}
 use Rattle.domain_bindings.specs.declared.host.Host.{Host}
-use Rattle.domain_plan.specs.declared.described.Loaded2.{Loaded2}
+use Rattle.dl_base.specs.declared.loaded.Loaded.{Loaded}
 use Rattle.domain_plan.specs.declared.planned.GuestPlan.{GuestPlan}
 use Rattle.domain_plan.specs.Entries.{joined, of_guest, is_read, items_of}
 use Rattle.domain_plan.specs.Taken.{Passed}
@@ -31,7 +31,7 @@ each_sound number read [] sound k d low = absurd (omega arith)
 each_sound number read (item ∷ items) sound zero d low = sound.0
 each_sound number read (item ∷ items) sound (suc k) d low = each_sound number read items sound.1 k d (omega arith)
 
-pub ready : (host : Host) (loads : List Loaded2) (guests : List Guest) (all : Heaps) → AreRead host loads guests → first_refused host.ram [] (joined host loads guests) ≡ None → heaps guests (free_frames host.ram (passed_of host loads guests)) ≡ Ok all →
+pub ready : (host : Host) (loads : List Loaded) (guests : List Guest) (all : Heaps) → AreRead host loads guests → first_refused host.ram [] (joined host loads guests) ≡ None → heaps guests (free_frames host.ram (passed_of host loads guests)) ≡ Ok all →
     (number : ℕ) (guest : Guest) (frames : List FrameRange) → slice_get guests number ≡ Some guest → slice_get all.drawn number ≡ Some frames → IsReady number guest frames
 ready host loads guests all read none drew number guest frames at at_drawn =
     let sound : AllSound (own_entries number guest) = own_sound host loads guests number guest (no_own host.ram [] (joined host loads guests) none) read.items at in

@@ -9,7 +9,7 @@ use Rattle.dl_base.specs.declared.ranges.Kind.TheVariants.{Shared}
 use Rattle.frame_alloc.specs.Frames.{AreFrames}
 use Rattle.domain_plan.specs.declared.described.Guest.{Guest}
 use Rattle.domain_bindings.specs.declared.host.Host.{Host}
-use Rattle.domain_plan.specs.declared.described.Loaded2.{Loaded2}
+use Rattle.dl_base.specs.declared.loaded.Loaded.{Loaded}
 use Rattle.frame_ranges.specs.Ranges.{holds}
 use Rattle.domain_plan.specs.Taken.{Passed, what_of, belongs_to}
 use Rattle.domain_plan.specs.Reasons.{are_one_region}
@@ -49,5 +49,5 @@ pub record AreApart (passed : List Passed) (heaps : Heaps) : Type 0 where
   pub left_once : AreFrames heaps.left
 
 -- where no item is refused, guests are apart
-abbrev pub GuestsAreApart : Host → List Loaded2 → List Guest → Type 0
+abbrev pub GuestsAreApart : Host → List Loaded → List Guest → Type 0
 GuestsAreApart host loads guests = (heaps : Heaps) → outcome host loads guests ≡ Ok heaps → AreApart (passed_of host loads guests) heaps

@@ -9,7 +9,7 @@ use Rattle.frame_alloc.specs.Frames.{AreFrameRanges}
 use Rattle.domain_bindings.specs.declared.domain.Domain.{Domain}
 use Rattle.domain_plan.specs.declared.described.Guest.{Guest}
 use Rattle.domain_bindings.specs.declared.host.Host.{Host}
-use Rattle.domain_plan.specs.declared.described.Loaded2.{Loaded2}
+use Rattle.dl_base.specs.declared.loaded.Loaded.{Loaded}
 use Rattle.domain_plan.specs.Entries.{Entry, joined, items_of}
 use Rattle.domain_plan.specs.Taken.{static_pages}
 
@@ -36,7 +36,7 @@ pub record IsSoundGuest (guest : Guest) : Type 0 where
   pub statics : sum_by static_pages (whats_of guest) ≤ 2 ^ 22
 
 -- the host's memory is sorted and apart; the items are sound; and so is each guest, where no item has a reason of its own
-pub record AreRead (host : Host) (loads : List Loaded2) (guests : List Guest) : Type 0 where
+pub record AreRead (host : Host) (loads : List Loaded) (guests : List Guest) : Type 0 where
   pub ram : AreFrameRanges host.ram
   pub items : AreSound (joined host loads guests)
   pub guests_sound : IsTrue (has_no_fault (joined host loads guests)) → All IsSoundGuest guests

@@ -6,7 +6,7 @@ use Rattle.dl_base.specs.declared.item.Part.TheVariants as parts
 use Rattle.dl_base.specs.declared.why.Why.TheVariants.{TooHigh}
 use Rattle.domain_bindings.specs.declared.host.Host.{Host}
 use Rattle.domain_plan.specs.declared.described.Guest.{Guest}
-use Rattle.domain_plan.specs.declared.described.Loaded2.{Loaded2}
+use Rattle.dl_base.specs.declared.loaded.Loaded.{Loaded}
 use Rattle.domain_plan.specs.declared.described.PartialState.{PartialState}
 use Rattle.domain_plan.specs.declared.described.PartialState.TheVariants as states
 
@@ -25,7 +25,7 @@ abbrev pub of_guest : ℕ → Bool → List Described → List Entry
 of_guest number read items = map (λ (described : Described). record { guest = Some number; partial_read = read; described = described }) items
 
 -- the item of a loaded file. It ends at or below 2^40, or is TooHigh
-abbrev pub load_item : Loaded2 → Described
+abbrev pub load_item : Loaded → Described
 load_item load =
     if nat_lt (2 ^ 40) (load.address + load.size)
     then record { item = record { part = parts.Load; path = load.name; index = 0 }; own = Some TooHigh; what = whats.Unread }
@@ -51,5 +51,5 @@ guest_entries number [] = []
 guest_entries number (guest ∷ guests) = of_guest number (is_read guest.partial) (items_of guest) ++ guest_entries (number + 1) guests
 
 -- all items: the host's, the loads, the modules of dom0, and the guests'
-abbrev pub joined : Host → List Loaded2 → List Guest → List Entry
+abbrev pub joined : Host → List Loaded → List Guest → List Entry
 joined host loads guests = of_host host.items ++ of_host (map load_item loads) ++ of_host host.modules ++ guest_entries 0 guests

@@ -9,7 +9,7 @@ use Rattle.dl_base.specs.declared.ranges.Kind.TheVariants.{Ram, Device, Shared}
 use Rattle.dl_base.specs.declared.ranges.MapRange.{MapRange}
 use Rattle.domain_bindings.specs.declared.host.Host.{Host}
 use Rattle.domain_plan.specs.declared.described.Guest.{Guest}
-use Rattle.domain_plan.specs.declared.described.Loaded2.{Loaded2}
+use Rattle.dl_base.specs.declared.loaded.Loaded.{Loaded}
 use Rattle.domain_plan.specs.Taken.{says_direct, static_pages}
 use Rattle.domain_plan.specs.Draws.{Heaps}
 use Rattle.domain_plan.specs.GuestMaps.{guest_ranges}
@@ -41,7 +41,7 @@ pub record HasOneKindOfMemory (guest : Guest) : Type 0 where
   pub head_alone : list_any says_direct (drop 1 (whats_of guest)) ≡ false
 
 -- where no item is refused, the pages of a guest's listed memory are those that its map gives it as its own
-abbrev pub MemoryIsMapped : Host → List Loaded2 → List Guest → Type 0
+abbrev pub MemoryIsMapped : Host → List Loaded → List Guest → Type 0
 MemoryIsMapped host loads guests =
     (heaps : Heaps) (number : ℕ) (guest : Guest) (drawn : List FrameRange) → outcome host loads guests ≡ Ok heaps → slice_get guests number ≡ Some guest → slice_get heaps.drawn number ≡ Some drawn →
     HasOneKindOfMemory guest → (page : ℕ) → is_listed (memories_of (passed_of host loads guests) number guest) page ≡ is_ram (guest_ranges (passed_of host loads guests) number drawn) page

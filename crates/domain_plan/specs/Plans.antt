@@ -8,7 +8,7 @@ use Rattle.dl_base.specs.declared.item.What.{What}
 use Rattle.dl_base.specs.declared.item.What.TheVariants as whats
 use Rattle.domain_plan.specs.declared.described.Guest.{Guest}
 use Rattle.domain_bindings.specs.declared.host.Host.{Host}
-use Rattle.domain_plan.specs.declared.described.Loaded2.{Loaded2}
+use Rattle.dl_base.specs.declared.loaded.Loaded.{Loaded}
 use Rattle.domain_plan.specs.declared.described.PartialState.{PartialState}
 use Rattle.domain_plan.specs.declared.described.PartialState.TheVariants as states
 use Rattle.domain_plan.specs.declared.planned.GuestPlan.{GuestPlan}
@@ -21,7 +21,7 @@ use Rattle.domain_plan.specs.Draws.{Heaps, free_frames, heaps}
 use Rattle.domain_plan.specs.GuestMaps.{guest_ranges}
 
 -- all items with what they take
-abbrev pub passed_of : Host → List Loaded2 → List Guest → List Passed
+abbrev pub passed_of : Host → List Loaded → List Guest → List Passed
 passed_of host loads guests = all_passed [] (joined host loads guests)
 
 -- a refusal, or else what comes after it
@@ -30,7 +30,7 @@ unless_refused (Some refusal) later = Err refusal
 unless_refused None later = later
 
 -- the first refused item with its first reason, the requests for memory coming last; or what the guests drew and what is left
-unfoldable pub outcome : Host → List Loaded2 → List Guest → Result Heaps Refusal
+unfoldable pub outcome : Host → List Loaded → List Guest → Result Heaps Refusal
 outcome host loads guests =
     unless_refused (first_refused host.ram [] (joined host loads guests))
     (heaps guests (free_frames host.ram (passed_of host loads guests)))

@@ -8,11 +8,11 @@ ghost use Rattle.domain_plan.specs.Taken.{Passed, belongs_to, all_passed};
 ghost use Rattle.domain_plan.specs.Refusals.{first_refused};
 ghost use Rattle.domain_plan.specs.Standing.{Stands, Checked, AreOfHost};
 
-use crate::described::{Guest, Loaded2, PartialState};
+use crate::described::{Guest, PartialState};
 use crate::passing::check_items;
 use crate::planned::PlanFault;
 use crate::state::{Owner, State};
-use dl_base::{BaseSize, Bytes, Described, FrameRange, Item, List, Part, What, Why};
+use dl_base::{BaseSize, Bytes, Described, FrameRange, Item, List, Loaded, Part, What, Why};
 use domain_bindings::Host;
 use std::alloc::{AllocError, Global};
 
@@ -27,7 +27,7 @@ fn ends_too_high(at: BaseSize) -> bool
 }
 
 /// The item of a loaded file.
-fn load_item(alloc: Global, load: &Loaded2) -> Result<Described, AllocError>
+fn load_item(alloc: Global, load: &Loaded) -> Result<Described, AllocError>
     ensures { IfOk result (λ item. item ≡ load_item load.now) }
 {
     let at = BaseSize {
@@ -139,7 +139,7 @@ fn check_guests(
 pub(crate) fn check_all(
     alloc: Global,
     host: &Host,
-    loads: &List<Loaded2>,
+    loads: &List<Loaded>,
     guests: &List<Guest>,
 ) -> Result<State, PlanFault>
     requires sorted { AreFrameRanges host.now.ram }
@@ -154,7 +154,7 @@ pub(crate) fn check_all(
 }
 
 /// The items of the loaded files.
-fn load_items(alloc: Global, loads: &[Loaded2]) -> Result<Vec<Described>, AllocError>
+fn load_items(alloc: Global, loads: &[Loaded]) -> Result<Vec<Described>, AllocError>
     ensures { IfOk result (λ items. items.items ≡ map load_item loads.now) }
 {
     let mut items = List::new(alloc);
@@ -169,7 +169,7 @@ fn check_host(
     state: &mut State,
     alloc: Global,
     host: &Host,
-    loads: &List<Loaded2>,
+    loads: &List<Loaded>,
 ) -> Result<(), PlanFault>
     requires sorted { AreFrameRanges host.now.ram }
     requires new { Stands None [] state.old }

@@ -1,5 +1,5 @@
-// What the plan is made from: the guests with their partial trees and links, and the files that were loaded.
-use dl_base::{Described, List, Text};
+// What the plan is made from: the guests with their partial trees and links.
+use dl_base::{Described, List};
 use domain_bindings::Domain;
 use passthrough_dtb::Partial;
 
@@ -25,15 +25,4 @@ pub struct Guest {
     pub shared: List<Described>,
     /// The items of its event channel ports, in document order.
     pub ports: List<Described>,
-}
-
-/// A file that is loaded before Xen starts.
-#[derive(Debug, Drop)]
-pub struct Loaded2 {
-    /// The file's name.
-    pub name: Text,
-    /// The host address of its first byte.
-    pub address: u64,
-    /// How many bytes it has.
-    pub size: u64,
 }

@@ -18,6 +18,6 @@ mod regions;
 mod state;
 mod takes;
 
-pub use described::{Guest, Loaded2, PartialState};
+pub use described::{Guest, PartialState};
 pub use planned::{GuestPlan, Plan, PlanFault};
 pub use planning::plan;

@@ -9,11 +9,11 @@ ghost use Rattle.domain_plan.specs.Draws.{Heaps, free_frames, heaps};
 ghost use Rattle.domain_plan.specs.Plans.{passed_of, outcome, AreGuestPlans};
 
 use crate::checking::check_all;
-use crate::described::{Guest, Loaded2};
+use crate::described::Guest;
 use crate::draws::{draw_for_guests, free_pool};
 use crate::guest_plan::guest_plan;
 use crate::planned::{GuestPlan, Plan, PlanFault};
-use dl_base::{FrameRange, List};
+use dl_base::{FrameRange, List, Loaded};
 use domain_bindings::Host;
 use std::alloc::{AllocError, Global};
 
@@ -21,7 +21,7 @@ use std::alloc::{AllocError, Global};
 fn guest_plans(
     alloc: Global,
     host: &Host,
-    loads: &List<Loaded2>,
+    loads: &List<Loaded>,
     guests: &List<Guest>,
     drawn: &List<Vec<FrameRange>>,
 ) -> Result<List<GuestPlan>, AllocError>
@@ -48,7 +48,7 @@ fn guest_plans(
 pub fn plan(
     alloc: Global,
     host: &Host,
-    loads: &List<Loaded2>,
+    loads: &List<Loaded>,
     guests: &List<Guest>,
 ) -> Result<Plan, PlanFault>
     requires { AreRead host.now loads.now guests.now }

@@ -132,7 +132,7 @@ fn cut_line(bytes: &[u8]) -> (&[u8], &[u8])
     (without_return(line), skip_one(rest))
 }
 
-fn without_return(line: &[u8]) -> &[u8]
+pub(crate) fn without_return(line: &[u8]) -> &[u8]
     ensures { result.now ≡ strip_carriage_return line.now }
 {
     match line {

@@ -9,6 +9,7 @@ mod fault;
 mod groups;
 mod guests;
 mod lines;
+mod names;
 mod settings;
 mod shown;
 mod unused;

@@ -1,8 +1,9 @@
 // How the faults of a configuration are shown.
 ghost use Rattle.std.specs.Prelude.{◌≡◌, ◌++◌, OnOk, decimal};
-ghost use Rattle.ib_config.specs.FaultTexts.{variable, fault_text};
+ghost use Rattle.ib_config.specs.FaultTexts.{variable, fault_text, named_fault_text};
 
 use crate::fault::ConfigFault;
+use crate::names::name_on_line;
 use dl_base::Bytes;
 use std::alloc::{AllocError, Global};
 
@@ -59,6 +60,25 @@ impl ConfigFault {
             }
             ConfigFault::TooMany(count) => append_number(alloc, line, "TooMany ", *count),
             ConfigFault::Memory => line.append(b"out of memory"),
+        }
+    }
+    /// Adds the fault's text as `append_text` does, and behind that of a name without effect the name: that on the line
+    /// of the fault in the file of these bytes. After want of memory a part of it may have been added.
+    pub fn append_named_text(
+        &self,
+        alloc: Global,
+        bytes: &[u8],
+        line: &mut Bytes,
+    ) -> Result<(), AllocError>
+        ensures { OnOk result (line.new ≡ line.old ++ named_fault_text bytes.now self.now) }
+    {
+        self.append_text(alloc, line)?;
+        match self {
+            ConfigFault::Unsupported(at) => {
+                line.append(b" ")?;
+                line.append(name_on_line(bytes, *at))
+            }
+            _ => Ok(()),
         }
     }
 }

@@ -1,2 +1,3 @@
 pub mod GuestLemmas
 pub mod PartLemmas
+mod Instances

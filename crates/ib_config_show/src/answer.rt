@@ -19,10 +19,15 @@ fn write_settings<W: Write>(alloc: Global, out: &mut W, config: &Config) -> io::
     out.write_all(shown.as_bytes())
 }
 
-fn write_fault<W: Write>(alloc: Global, out: &mut W, fault: &ConfigFault) -> io::Result<()>
-    ensures { OnOk result (Appends (W.contents out.old) (W.contents out.new) (fault_line fault.now)) }
+fn write_fault<W: Write>(
+    alloc: Global,
+    bytes: &[u8],
+    out: &mut W,
+    fault: &ConfigFault,
+) -> io::Result<()>
+    ensures { OnOk result (Appends (W.contents out.old) (W.contents out.new) (fault_line bytes.now fault.now)) }
 {
-    let shown = show_fault(alloc, fault)?;
+    let shown = show_fault(alloc, bytes, fault)?;
     out.write_all(shown.as_slice())
 }
 
@@ -34,7 +39,7 @@ pub(crate) fn answer<O: Write, F: Write>(
     faults: &mut F,
 ) -> io::Result<bool>
     ensures shown { IfOk result (λ accepted. OnTrue accepted (ShowsSettings (config_of bytes.now) (O.contents out.old) (O.contents out.new))) }
-    ensures refused { IfOk result (λ accepted. OnFalse accepted (ShowsFault (config_of bytes.now) (F.contents faults.old) (F.contents faults.new))) }
+    ensures refused { IfOk result (λ accepted. OnFalse accepted (ShowsFault bytes.now (config_of bytes.now) (F.contents faults.old) (F.contents faults.new))) }
 
     // The other output stays as it was.
     ensures no_fault { IfOk result (λ accepted. OnTrue accepted (F.contents faults.new ≡ F.contents faults.old)) }
@@ -46,7 +51,7 @@ pub(crate) fn answer<O: Write, F: Write>(
             Ok(true)
         }
         Err(fault) => {
-            write_fault(alloc, faults, &fault)?;
+            write_fault(alloc, bytes, faults, &fault)?;
             Ok(false)
         }
     }

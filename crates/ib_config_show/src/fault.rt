@@ -6,12 +6,16 @@ use dl_base::Bytes;
 use ib_config::ConfigFault;
 use std::alloc::{AllocError, Global};
 
-/// The line of a fault: its text, and a line feed.
-pub(crate) fn show_fault(alloc: Global, fault: &ConfigFault) -> Result<Bytes, AllocError>
-    ensures { IfOk result (λ line. line ≡ fault_line fault.now) }
+/// The line of a fault of a file: its text, for a name without effect that name, and a line feed.
+pub(crate) fn show_fault(
+    alloc: Global,
+    bytes: &[u8],
+    fault: &ConfigFault,
+) -> Result<Bytes, AllocError>
+    ensures { IfOk result (λ line. line ≡ fault_line bytes.now fault.now) }
 {
     let mut line = Bytes::new(alloc);
-    fault.append_text(alloc, &mut line)?;
+    fault.append_named_text(alloc, bytes, &mut line)?;
     line.append(b"\n")?;
     Ok(line)
 }

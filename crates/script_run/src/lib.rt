@@ -9,5 +9,5 @@ mod numbers;
 mod script;
 mod words;
 
-pub use machine::{Loaded, Machine, StepFault, StepWhy, run, tree_load};
+pub use machine::{Machine, StepFault, StepWhy, run, tree_load};
 pub use script::{LineWhy, ScriptFault, parse};

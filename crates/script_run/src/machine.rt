@@ -8,22 +8,11 @@ ghost use Rattle.fdt_tree.specs.Tree.{is_node_name, is_property_name};
 ghost use Rattle.ib_script.specs.declared.command.Command.TheVariants.{Mknod, Set};
 ghost use Rattle.script_run.specs.Moves.{IsMoved, left_behind, first_or_0, stop_of, fault_of};
 
-use dl_base::{Bytes, List, Text};
+use dl_base::{Bytes, List, Loaded, Text};
 use fdt_tree::{EditFault, Tree};
 use ib_script::{Command, Piece};
 use std::alloc::{AllocError, Global};
 use std::marker::Model;
-
-/// A file that a script loaded.
-#[derive(Debug, Drop)]
-pub struct Loaded {
-    /// The name of the file.
-    pub name: Text,
-    /// The address of its first byte.
-    pub address: u64,
-    /// Its size in bytes; the device tree's is that of the tree as the script makes it.
-    pub size: u64,
-}
 
 /// Why a command is refused.
 #[derive(Clone, Copy, Debug, PartialEq, Eq, Drop)]

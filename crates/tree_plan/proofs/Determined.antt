@@ -14,7 +14,7 @@ use Rattle.domain_bindings.specs.Hosts.{host_items, dom0_items, ram_regions}
 use Rattle.domain_bindings.specs.Ram.{IsRam}
 use Rattle.domain_bindings.proofs.RamLemmas.{AreFrameRanges-merged}
 use Rattle.domain_plan.specs.declared.described.Guest.{Guest}
-use Rattle.domain_plan.specs.declared.described.Loaded2.{Loaded2}
+use Rattle.dl_base.specs.declared.loaded.Loaded.{Loaded}
 use Rattle.domain_plan.specs.declared.planned.GuestPlan.{GuestPlan}
 use Rattle.domain_plan.specs.Arguments.{AreRead}
 use Rattle.domain_plan.specs.Draws.{Heaps}
@@ -123,7 +123,7 @@ plans_are passed number (guest ∷ guests) (frames ∷ drawn) (plan ∷ plans) a
     let shift : number + suc k ≡ number + 1 + k = omega arith in
     subst (λ (n : ℕ). AreApart (guest_ranges passed n d) × AreLowRanges (guest_ranges passed n d)) shift (facts (suc k) g d at at_drawn)))
 
-module _ (host : Host) (loads : List Loaded2) (guests : List Guest) (all : Heaps) (read : AreRead host loads guests) (is : outcome host loads guests ≡ Ok all) where
+module _ (host : Host) (loads : List Loaded) (guests : List Guest) (all : Heaps) (read : AreRead host loads guests) (is : outcome host loads guests ≡ Ok all) where
   ranges_fit : (number : ℕ) (guest : Guest) (frames : List FrameRange) → slice_get guests number ≡ Some guest → slice_get all.drawn number ≡ Some frames
       → AreApart (guest_ranges (passed_of host loads guests) number frames) × AreLowRanges (guest_ranges (passed_of host loads guests) number frames)
   ranges_fit number guest frames at at_drawn =

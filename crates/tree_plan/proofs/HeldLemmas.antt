@@ -13,7 +13,7 @@ use Rattle.domain_bindings.specs.declared.domain.Domain.{Domain}
 use Rattle.static_links.specs.Ports.{port_items}
 use Rattle.static_links.specs.Shared.{shared_items}
 use Rattle.domain_plan.specs.declared.described.Guest.{Guest}
-use Rattle.domain_plan.specs.declared.described.Loaded2.{Loaded2}
+use Rattle.dl_base.specs.declared.loaded.Loaded.{Loaded}
 use Rattle.domain_plan.specs.declared.described.PartialState.TheVariants as states
 use Rattle.tree_plan.specs.Descriptions.{description_of, domain_of, guest_of, guests_from, guests_of, partial_at, partial_state, trees_in}
 use Rattle.tree_plan.specs.HeldGuests.{held_guest, unheld}
@@ -49,7 +49,7 @@ each_live limit (domain ∷ domains) all =
     (each_live limit domains (All-tail (λ (node : ℕ). node < limit) domain.node (map (λ (one : Domain). one.node) domains) all))
 
 -- the guests that were read are those of the description
-pub described_guests : (document : Document) (reserves : List Reserve) (loads : List Loaded2) (partials : List (Option Document)) (guests : List Guest)
+pub described_guests : (document : Document) (reserves : List Reserve) (loads : List Loaded) (partials : List (Option Document)) (guests : List Guest)
     → map unheld guests ≡ guests_from document.tree (trees_in partials) 0 (guest_nodes document.tree) → map unheld guests ≡ guests_of (description_of document reserves loads partials)
 unfolding guests_of
 described_guests document reserves loads partials guests same = same

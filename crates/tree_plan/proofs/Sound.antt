@@ -29,7 +29,7 @@ use Rattle.static_links.specs.Shared.{shared_items}
 use Rattle.passthrough_dtb.proofs.Soundness.{sound_items}
 use Rattle.static_links.proofs.Soundness.{sound_shared, sound_ports}
 use Rattle.domain_plan.specs.declared.described.Guest.{Guest}
-use Rattle.domain_plan.specs.declared.described.Loaded2.{Loaded2}
+use Rattle.dl_base.specs.declared.loaded.Loaded.{Loaded}
 use Rattle.domain_plan.specs.declared.described.PartialState.TheVariants as states
 use Rattle.domain_plan.specs.Arguments.{AreSound}
 use Rattle.domain_plan.specs.Entries.{Entry, joined, of_host, of_guest, items_of, is_read, load_item, guest_entries, partial_items}
@@ -102,13 +102,13 @@ either_sound : (test : Bool) (one other : Described) (A : Type 0) → SoundUnles
 either_sound true one other A sound sound_too = sound
 either_sound false one other A sound sound_too = sound_too
 
-abbrev high_load : Loaded2 → Described
+abbrev high_load : Loaded → Described
 high_load load = record { item = record { part = parts.Load; path = load.name; index = 0 }; own = Some TooHigh; what = whats.Unread }
 
-abbrev low_load : Loaded2 → Described
+abbrev low_load : Loaded → Described
 low_load load = record { item = record { part = parts.Load; path = load.name; index = 0 }; own = None; what = whats.Load (record { base = load.address; size = load.size }) }
 
-loads_sound : (loads : List Loaded2) → items.AreSound (map load_item loads)
+loads_sound : (loads : List Loaded) → items.AreSound (map load_item loads)
 loads_sound [] = tt
 loads_sound (load ∷ loads) = either_sound (nat_lt (2 ^ 40) (load.address + load.size)) (high_load load) (low_load load) (items.AreSound (map load_item loads)) tt (tt, loads_sound loads)
 

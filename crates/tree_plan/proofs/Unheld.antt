@@ -5,7 +5,7 @@ use Rattle.dl_base.specs.declared.ranges.FrameRange.{FrameRange}
 use Rattle.dl_base.specs.declared.why.Why.TheVariants.{NoRam}
 use Rattle.domain_bindings.specs.declared.host.Host.{Host}
 use Rattle.domain_plan.specs.declared.described.Guest.{Guest}
-use Rattle.domain_plan.specs.declared.described.Loaded2.{Loaded2}
+use Rattle.dl_base.specs.declared.loaded.Loaded.{Loaded}
 use Rattle.domain_plan.specs.declared.planned.GuestPlan.{GuestPlan}
 use Rattle.domain_plan.specs.Arguments.{AreRead, AreSound, IsSoundGuest, has_no_fault}
 use Rattle.domain_plan.specs.Draws.{Drawn, Heaps, drawn, heaps, and_drawn, heap_item, free_frames}
@@ -20,7 +20,7 @@ entries_unheld number [] = refl
 entries_unheld number (guest ∷ guests) =
     ap (λ (rest : List Entry). of_guest number (is_read guest.partial) (items_of guest) ++ rest) (entries_unheld (number + 1) guests)
 
-module _ (host : Host) (loads : List Loaded2) where
+module _ (host : Host) (loads : List Loaded) where
   pub joined_unheld : (guests : List Guest) → joined (unheld_host host) loads (map unheld guests) ≡ joined host loads guests
   joined_unheld guests = ap (λ (rest : List Entry). of_host host.items ++ of_host (map load_item loads) ++ of_host host.modules ++ rest) (entries_unheld 0 guests)
 
@@ -43,7 +43,7 @@ heaps_unheld (guest ∷ guests) free = by (drawn guest.domain.pages free) (heaps
     by None later = refl
     by (Some one) later = ap (and_drawn one.frames) (later one.left)
 
-pub outcome_unheld : (host : Host) (loads : List Loaded2) (guests : List Guest) → outcome (unheld_host host) loads (map unheld guests) ≡ outcome host loads guests
+pub outcome_unheld : (host : Host) (loads : List Loaded) (guests : List Guest) → outcome (unheld_host host) loads (map unheld guests) ≡ outcome host loads guests
 unfolding outcome
 outcome_unheld host loads guests =
     ap (λ (entries : List Entry). unless_refused (first_refused host.ram [] entries) (heaps (map unheld guests) (free_frames host.ram (all_passed [] entries)))) (joined_unheld host loads guests)
@@ -86,7 +86,7 @@ sound_held (guest ∷ guests) all =
     let first : IsSoundGuest (unheld guest) = All-head IsSoundGuest (unheld guest) (map unheld guests) all in
     All-cons IsSoundGuest guest guests (record { head = first.head; statics = first.statics }) (sound_held guests (All-tail IsSoundGuest (unheld guest) (map unheld guests) all))
 
-pub read_held : (host : Host) (loads : List Loaded2) (guests : List Guest) → AreRead (unheld_host host) loads (map unheld guests) → AreRead host loads guests
+pub read_held : (host : Host) (loads : List Loaded) (guests : List Guest) → AreRead (unheld_host host) loads (map unheld guests) → AreRead host loads guests
 read_held host loads guests read = record {
   ram = read.ram;
   items = subst AreSound (joined_unheld host loads guests) read.items;

@@ -17,7 +17,7 @@ use Rattle.passthrough_dtb.specs.Items.{partial_items}
 use Rattle.static_links.specs.Ports.{port_items}
 use Rattle.static_links.specs.Shared.{shared_items}
 use Rattle.domain_plan.specs.declared.described.Guest.{Guest}
-use Rattle.domain_plan.specs.declared.described.Loaded2.{Loaded2}
+use Rattle.dl_base.specs.declared.loaded.Loaded.{Loaded}
 use Rattle.domain_plan.specs.declared.described.PartialState.{PartialState}
 use Rattle.domain_plan.specs.declared.described.PartialState.TheVariants as states
 
@@ -25,7 +25,7 @@ use Rattle.domain_plan.specs.declared.described.PartialState.TheVariants as stat
 pub record Description : Type 0 where
   pub root : Tree
   pub reserves : List Reserve
-  pub loads : List Loaded2
+  pub loads : List Loaded
   pub partials : List (Option Tree)
 
 -- partial trees in memory as trees
@@ -33,7 +33,7 @@ abbrev pub trees_in : List (Option Document) → List (Option Tree)
 trees_in partials = map (λ (partial : Option Document). option_map (λ (document : Document). document.tree) partial) partials
 
 -- what trees in memory describe
-abbrev pub description_of : Document → List Reserve → List Loaded2 → List (Option Document) → Description
+abbrev pub description_of : Document → List Reserve → List Loaded → List (Option Document) → Description
 description_of document reserves loads partials = record { root = document.tree; reserves = reserves; loads = loads; partials = trees_in partials }
 
 -- a frame before ranges of frames

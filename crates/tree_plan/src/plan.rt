@@ -6,9 +6,9 @@ ghost use Rattle.tree_plan.specs.Descriptions.{description_of};
 ghost use Rattle.tree_plan.specs.TreePlans.{IsFaultOf, is_common, plan_of};
 
 use crate::guests::read_guests;
-use dl_base::List;
+use dl_base::{List, Loaded};
 use domain_bindings::read_host;
-use domain_plan::{Loaded2, Plan, PlanFault, plan};
+use domain_plan::{Plan, PlanFault, plan};
 use fdt_tree::{Reserve, Tree};
 use std::alloc::Global;
 
@@ -20,7 +20,7 @@ pub fn plan_tree(
     alloc: Global,
     tree: &Tree,
     reserves: &[Reserve],
-    loads: &List<Loaded2>,
+    loads: &List<Loaded>,
     partials: &[Option<Tree>],
 ) -> Result<Plan, PlanFault>
     // Exactly the plan that the description determines.

@@ -2,7 +2,7 @@ use Rattle.std.proofs.Common.{◌≡◌, List, [], ◌++◌, map, Option, Some, 
 use Rattle.std.specs.Option.{option_or}
 use Rattle.dl_base.specs.declared.ranges.FrameRange.{FrameRange}
 use Rattle.domain_bindings.specs.declared.host.Host.{Host}
-use Rattle.domain_plan.specs.declared.described.Loaded2.{Loaded2}
+use Rattle.dl_base.specs.declared.loaded.Loaded.{Loaded}
 use Rattle.domain_plan.specs.declared.described.Guest.{Guest}
 use Rattle.domain_plan.specs.Entries.{Entry, of_host, load_item, guest_entries, joined}
 use Rattle.domain_plan.specs.Taken.{Passed, all_passed}
@@ -13,10 +13,10 @@ use Rattle.domain_plan.proofs.GuestSteps.{fresh_host}
 use Rattle.domain_plan.proofs.checking.check_all.Goals as goal
 
 -- what stands before the guests' items
-front : Host → List Loaded2 → List Entry
+front : Host → List Loaded → List Entry
 front host loads = of_host host.items ++ of_host (map load_item loads) ++ of_host host.modules
 
-front_of_host : (host : Host) (loads : List Loaded2) → AreOfHost (all_passed [] (front host loads))
+front_of_host : (host : Host) (loads : List Loaded) → AreOfHost (all_passed [] (front host loads))
 unfolding front
 front_of_host host loads =
     let items = of_host host.items in
@@ -28,14 +28,14 @@ front_of_host host loads =
     let third : AreOfHost (all_passed (all_passed (all_passed [] items) files) modules) = fresh_host host.modules (all_passed (all_passed [] items) files) second in
     subst AreOfHost (ap (λ (passed : List Passed). all_passed passed modules) (sym (all_passed-append [] items files)) ∙ sym (all_passed-append [] (items ++ files) modules)) third
 
-then_guests : (ram : List FrameRange) (host : Host) (loads : List Loaded2) (guests : List Guest) (o : Option Refusal) → first_refused ram [] (front host loads) ≡ None → first_refused ram (all_passed [] (front host loads)) (guest_entries 0 guests) ≡ o →
+then_guests : (ram : List FrameRange) (host : Host) (loads : List Loaded) (guests : List Guest) (o : Option Refusal) → first_refused ram [] (front host loads) ≡ None → first_refused ram (all_passed [] (front host loads)) (guest_entries 0 guests) ≡ o →
     first_refused ram [] (joined host loads guests) ≡ o
 unfolding front
 then_guests ram host loads guests o none later =
     first_refused-append ram [] (front host loads) (guest_entries 0 guests)
     ∙ ap (λ (one : Option Refusal). option_or one (first_refused ram (all_passed [] (front host loads)) (guest_entries 0 guests))) none ∙ later
 
-before_guests : (ram : List FrameRange) (host : Host) (loads : List Loaded2) (guests : List Guest) (refusal : Refusal) → first_refused ram [] (front host loads) ≡ Some refusal → first_refused ram [] (joined host loads guests) ≡ Some refusal
+before_guests : (ram : List FrameRange) (host : Host) (loads : List Loaded) (guests : List Guest) (refusal : Refusal) → first_refused ram [] (front host loads) ≡ Some refusal → first_refused ram [] (joined host loads guests) ≡ Some refusal
 unfolding front
 before_guests ram host loads guests refusal some =
     first_refused-append ram [] (front host loads) (guest_entries 0 guests)

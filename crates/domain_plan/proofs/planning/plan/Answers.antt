@@ -1,7 +1,7 @@
 use Rattle.std.proofs.Common.{◌≡◌, ℕ, List, [], map, Vec, Global, Option, Some, None, Result, Ok, Err, rules, refl, sym, ap, ◌∙◌}
 use Rattle.dl_base.specs.declared.ranges.FrameRange.{FrameRange}
 use Rattle.domain_bindings.specs.declared.host.Host.{Host}
-use Rattle.domain_plan.specs.declared.described.Loaded2.{Loaded2}
+use Rattle.dl_base.specs.declared.loaded.Loaded.{Loaded}
 use Rattle.domain_plan.specs.declared.described.Guest.{Guest}
 use Rattle.domain_plan.specs.Entries.{joined}
 use Rattle.domain_plan.specs.Refusals.{Refusal, first_refused}
@@ -11,11 +11,11 @@ use Rattle.domain_plan.proofs.LowClaims.{all_claims_low}
 use Rattle.domain_plan.proofs.planning.plan.Goals as goal
 
 -- the outcome, where an item is refused, and where none is
-item_refused : (host : Host) (loads : List Loaded2) (guests : List Guest) (refusal : Refusal) → first_refused host.ram [] (joined host loads guests) ≡ Some refusal → outcome host loads guests ≡ Err refusal
+item_refused : (host : Host) (loads : List Loaded) (guests : List Guest) (refusal : Refusal) → first_refused host.ram [] (joined host loads guests) ≡ Some refusal → outcome host loads guests ≡ Err refusal
 unfolding outcome
 item_refused host loads guests refusal some = ap (λ (o : Option Refusal). unless_refused o (heaps guests (free_frames host.ram (passed_of host loads guests)))) some
 
-none_refused : (host : Host) (loads : List Loaded2) (guests : List Guest) (free : List ℕ) (o : Result Heaps Refusal) → first_refused host.ram [] (joined host loads guests) ≡ None → free ≡ free_frames host.ram (passed_of host loads guests) → heaps guests free ≡ o → outcome host loads guests ≡ o
+none_refused : (host : Host) (loads : List Loaded) (guests : List Guest) (free : List ℕ) (o : Result Heaps Refusal) → first_refused host.ram [] (joined host loads guests) ≡ None → free ≡ free_frames host.ram (passed_of host loads guests) → heaps guests free ≡ o → outcome host loads guests ≡ o
 unfolding outcome
 none_refused host loads guests free o none is drew =
     ap (λ (one : Option Refusal). unless_refused one (heaps guests (free_frames host.ram (passed_of host loads guests)))) none ∙ ap (heaps guests) (sym is) ∙ drew
