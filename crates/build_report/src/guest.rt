@@ -13,6 +13,7 @@ use std::alloc::{AllocError, Global};
 /// Adds the lines of a guest whose image has so many tables: its number, path, vCPUs, pages of memory and tables; then a
 /// line for each run of its map, each interrupt and each port. Addresses are in bytes and hexadecimal, all counts in
 /// decimal; a page has 4,096 bytes. After want of memory part of it may stand in the report.
+#[tactic(auto, unfolding(crate::specs::Report::guest_lines))]
 pub fn append_guest(
     alloc: Global,
     report: &mut Bytes,

@@ -1,0 +1,6 @@
+pub mod Names
+pub mod Lengths
+pub mod Outputs
+pub mod Builds
+pub mod Isolation
+pub mod Made

@@ -1,0 +1,31 @@
+//! The names of the files that a build writes.
+ghost use Rattle.std.specs.Prelude.{◌≡◌, IfOk, string_bytes};
+ghost use Rattle.std.specs.Option.{option_copied};
+ghost use Rattle.run_steps.specs.Names.{joined};
+ghost use Rattle.build_outputs.specs.Names.{guest_name, image_name};
+
+use dl_base::Text;
+use run_steps::join;
+use std::alloc::{AllocError, Global};
+
+/// The name of the host's tree.
+pub(crate) const HOST: &str = "host.dtb";
+
+/// The name of the image of the guest with this number, in a folder where one is given.
+pub(crate) fn make_image_name(
+    alloc: Global,
+    folder: Option<&str>,
+    number: u64,
+) -> Result<Text, AllocError>
+    ensures { IfOk result (λ name. name ≡ joined (option_copied folder.entry) (image_name number)) }
+{
+    let name = make_guest_name(alloc, number, ".s2")?;
+    join(alloc, folder, name.as_str())
+}
+
+/// The name of a file of the guest with this number: `domU`, the number and the ending.
+fn make_guest_name(alloc: Global, number: u64, ending: &str) -> Result<String, AllocError>
+    ensures { IfOk result (λ name. string_bytes name ≡ guest_name number ending.now) }
+{
+    format!(in alloc; "domU{number}{ending}")
+}

@@ -1,0 +1,44 @@
+//! Refused items as stops of a run.
+ghost use Rattle.std.specs.Prelude.{◌≡◌, ◌⊎◌, Some, None};
+ghost use Rattle.run_steps.specs.Messages.{refused_message};
+ghost use Rattle.run_steps.specs.Stops.{IsOwnDue};
+ghost use Rattle.domain_plan.specs.Refusals.{Refusal};
+ghost use Rattle.build_outputs.specs.Builds.{IsItemRefusal};
+
+use dl_base::{Item, Status, Why};
+use domain_plan::PlanFault;
+use guest_images::ImagesFault;
+use run_steps::{Stop, make_refused_message};
+use std::alloc::Global;
+
+/// The stop at a refused item.
+pub(crate) fn refused(alloc: Global, item: &Item, why: &Why) -> Stop
+    ensures { IsOwnDue (IsItemRefusal (item.now, why.now)) result }
+{
+    match make_refused_message(alloc, item, why) {
+        Ok(message) => Stop::Because(Status::Refused, message),
+        Err(_) => Stop::Memory,
+    }
+}
+
+/// The stop where there is no plan.
+pub(crate) fn plan_stop(alloc: Global, fault: PlanFault) -> Stop
+    ensures said { (item : _) → (why : _) → fault ≡ PlanFault.Refused item why → IsOwnDue (IsItemRefusal (item, why)) result }
+    ensures memory { fault ≡ PlanFault.Memory → result ≡ Stop.Memory }
+{
+    match fault {
+        PlanFault::Refused(item, why) => refused(alloc, &item, &why),
+        PlanFault::Memory => Stop::Memory,
+    }
+}
+
+/// The stop where there are no images.
+pub(crate) fn images_stop(alloc: Global, fault: ImagesFault) -> Stop
+    ensures said { (item : _) → (why : _) → fault ≡ ImagesFault.Refused item why → IsOwnDue (IsItemRefusal (item, why)) result }
+    ensures memory { fault ≡ ImagesFault.Memory → result ≡ Stop.Memory }
+{
+    match fault {
+        ImagesFault::Refused(item, why) => refused(alloc, &item, &why),
+        ImagesFault::Memory => Stop::Memory,
+    }
+}

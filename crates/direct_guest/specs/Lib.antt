@@ -1,9 +1,0 @@
-pub mod Nodes
-pub mod Siblings
-pub mod Guests
-pub mod Form
-pub mod Verdicts
-pub mod Found
-pub mod Candidates
-pub mod Images
-pub mod Faults

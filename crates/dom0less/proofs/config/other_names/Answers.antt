@@ -1,6 +1,0 @@
-use Rattle.std.proofs.Common.{◌∙◌}
-use Rattle.dom0less.proofs.ConfigSteps.{others_left}
-use Rattle.dom0less.proofs.config.other_names.Goals as goal
-
-pub returns : goal.returns
-returns c = c.pop-tree.ensures.rest ∙ others_left c.args.config.now c.into_vec-names.result.items _ (c.into_vec-names.ensures ∙ c.in_ok-files.ensures) c.into_vec-names.result.ok.0

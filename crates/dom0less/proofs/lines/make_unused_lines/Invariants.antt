@@ -1,7 +1,0 @@
-use Rattle.std.proofs.Common.{◌≡◌, take}
-use Rattle.dom0less.specs.Lines.{unused_lines}
-use Rattle.dom0less.proofs.lines.make_unused_lines.Given as goal
-
--- the names so far have their lines
-abbrev pub invariant-loop-name : goal.invariant-loop-name
-invariant-loop-name l = l.made ≡ unused_lines (take l.name-index l.names)

@@ -1,9 +1,0 @@
-pub mod Lines
-pub mod Words
-pub mod Meant
-pub mod Trees
-pub mod Configs
-pub mod Scripts
-pub mod Job
-pub mod Headline
-pub mod Laws
