@@ -1,10 +1,10 @@
 -- The rules of usage: which options may stand together, and what they ask for.
-use Rattle.std.specs.Prelude.{ℕ, ◌&&◌, Bool, true, false, not, if◌then◌else◌, nat_le, bytes_eq, codes, Option, Some, None, is_none, Result, Ok, Err, option_and_then}
+use Rattle.std.specs.Prelude.{ℕ, ◌&&◌, Bool, not, if◌then◌else◌, nat_le, bytes_eq, codes, Option, Some, None, is_none, Result, Ok, Err, option_map, option_and_then}
 use Rattle.dl_base.specs.NumberTexts.{number_of}
 use Rattle.dl_base.specs.declared.number.NumberFault.{NumberFault}
 use Rattle.ib_script.specs.declared.make.LoadKind.{LoadKind}
 use Rattle.ib_script.specs.declared.make.LoadKind.TheVariants.{Tftp, Sd, Scsi, Usb}
-use Rattle.dom0less_words.specs.Words.{Word, Source, Config, Replay, Ready, Asked, Build, Check, Script, Show, Generate, Options}
+use Rattle.dom0less_words.specs.Words.{Word, Config, Replay, Ready, Asked, Build, Script, Show, Generate, Options}
 
 -- the five modes, each with the words that stand with it
 pub data Mode : Type 0 where
@@ -27,10 +27,10 @@ mode_by _ _ _ _ _ = None
 abbrev pub mode_of : Options → Option Mode
 mode_of o = mode_by o.config o.script o.tree o.show o.generate
 
--- where files are loaded from: `tftp` where nothing is said
-abbrev pub kind_of : Option Word → Option LoadKind
-kind_of None = Some Tftp
-kind_of (Some word) = if bytes_eq word (codes "tftp") then Some Tftp
+-- where the script loads files from: one of four words, and `tftp` where none is given
+abbrev pub load_kind_of : Option Word → Option LoadKind
+load_kind_of None = Some Tftp
+load_kind_of (Some word) = if bytes_eq word (codes "tftp") then Some Tftp
     else (if bytes_eq word (codes "sd") then Some Sd
     else (if bytes_eq word (codes "scsi") then Some Scsi
     else (if bytes_eq word (codes "usb") then Some Usb else None)))
@@ -44,43 +44,33 @@ abbrev pub within : Result ℕ NumberFault → Option ℕ
 within (Ok number) = if nat_le number generated_limit then Some number else None
 within (Err fault) = None
 
--- a word that is a number up to the limit
+-- the number that a word says, decimal or hexadecimal, where it is within the limit
 abbrev pub generated_of : Word → Option ℕ
 generated_of word = within (number_of word)
-
--- this, where the test holds
-abbrev pub where_ok : Bool → Asked → Option Asked
-where_ok true asked = Some asked
-where_ok false asked = None
-
--- a build, or the audit of one
-abbrev pub built_or_checked : Bool → Source → Option Word → Asked
-built_or_checked true source outputs = Check source outputs
-built_or_checked false source outputs = Build source outputs
 
 -- neither `-t` nor `--script-only` is given
 abbrev pub has_no_script_options : Options → Bool
 has_no_script_options o = is_none o.kind && not o.script_only
 
--- none of `-d`, `-w` and `--check` is given either
+-- neither `-d` nor `-w` is given either
 abbrev pub stands_alone : Options → Bool
-stands_alone o = is_none o.files && (is_none o.outputs && (not o.check && has_no_script_options o))
+stands_alone o = is_none o.files && (is_none o.outputs && has_no_script_options o)
 
--- a configuration's script alone, which is not audited, or its build
-abbrev pub of_config : Options → Word → LoadKind → Option Asked
+-- a configuration's script alone, or the build from it
+abbrev pub of_config : Options → Word → LoadKind → Asked
 of_config o config kind =
     if o.script_only
-    then where_ok (not o.check) (Script (record { config = config; files = o.files; outputs = o.outputs; kind = kind }))
-    else Some (built_or_checked o.check (Config config o.files kind) o.outputs)
+    then Script (record { config = config; files = o.files; outputs = o.outputs; kind = kind })
+    else Build (Config config o.files kind) o.outputs
 
 -- what a mode and the other options ask for, where these may stand with it
 abbrev pub of_mode : Options → Mode → Option Asked
-of_mode o (OfConfig config) = option_and_then (of_config o config) (kind_of o.kind)
-of_mode o (OfReplay script tree) = where_ok (has_no_script_options o) (built_or_checked o.check (Replay script tree o.files) o.outputs)
-of_mode o (OfReady tree) = where_ok (is_none o.files && has_no_script_options o) (built_or_checked o.check (Ready tree) o.outputs)
-of_mode o (OfShow tree) = where_ok (stands_alone o) (Show tree)
-of_mode o (OfGenerate word) = option_and_then (λ number. where_ok (stands_alone o) (Generate number)) (generated_of word)
+of_mode o (OfConfig config) = option_map (of_config o config) (load_kind_of o.kind)
+of_mode o (OfReplay script tree) = if has_no_script_options o then Some (Build (Replay script tree o.files) o.outputs) else None
+of_mode o (OfReady tree) = if is_none o.files && has_no_script_options o then Some (Build (Ready tree) o.outputs) else None
+of_mode o (OfShow tree) = if stands_alone o then Some (Show tree) else None
+of_mode o (OfGenerate word) = option_and_then (λ number. if stands_alone o then Some (Generate number) else None) (generated_of word)
 
--- what the options ask for
+-- what the options ask for: nothing where they are not exactly one mode, or other options stand with it that may not
 abbrev pub asked_of : Options → Option Asked
 asked_of o = option_and_then (of_mode o) (mode_of o)

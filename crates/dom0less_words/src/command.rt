@@ -23,34 +23,58 @@ pub(crate) fn find_options<'a>(alloc: Global, words: &'a [String]) -> Result<Opt
     }
 }
 
+/// What `-c` is for.
+const CONFIG_HELP: &str = "Build from this configuration";
+
+/// What `-r` is for.
+const SCRIPT_HELP: &str = "Run this boot script on the tree of -b, and build";
+
+/// What `-b` is for.
+const TREE_HELP: &str = "The host tree; without -r: build from it as it is";
+
 /// What `-d` is for.
-const FILES_HELP: &str = "Where the files of a configuration or script are";
+const FILES_HELP: &str = "With -c or -r: the folder of the files that are named there";
 
 /// What `-w` is for.
-const OUTPUTS_HELP: &str = "Where outputs go, or with --check where images are";
+const OUTPUTS_HELP: &str = "With -c, -r or -b: the folder of the outputs";
 
 /// What `-t` is for.
-const KIND_HELP: &str = "Where the script loads files from: tftp, sd, scsi or usb [default: tftp]";
+const KIND_HELP: &str =
+    "With -c: where the script loads files from, tftp, sd, scsi or usb [default: tftp]";
+
+/// What `--script-only` is for.
+const SCRIPT_ONLY_HELP: &str = "With -c: write boot.source and stop";
+
+/// What `--show` is for.
+const SHOW_HELP: &str = "List this tree";
 
 /// What `--gen` is for.
-const GENERATED_HELP: &str = "Build the tree that is generated for a number, 0 to 1,000,000";
+const GENERATED_HELP: &str =
+    "Build the tree that is generated for this number, 0 to 1,000,000, and write no file";
 
 /// What the program is for, as its help begins.
 const ABOUT: &str =
-    "Prepares and checks dom0less boots of Xen: boot scripts, device trees and stage-2 tables of guests";
+    "Builds dom0less boots of Xen: boot scripts, device trees and stage-2 tables of guests";
 
-/// The modes, the options that go with each, and an example, as the help ends.
+/// The modes, with the options that each takes, and an example, as the help ends.
 const AFTER_HELP: &str = "Modes, of which exactly one is given:
-  -c CONFIG          Make the boot script of a configuration, run it on the host tree, and build
-  -r SCRIPT -b TREE  Run a boot script on the host tree, and build
-  -b TREE            Build from a ready host tree
-  --show TREE        List a tree
-  --gen N            Build the tree that is generated for N, and write nothing
+  -c <CONFIG> [-d <DIR>] [-w <DIR>] [-t <KIND>]
+          Make the boot script of a configuration, run it on the host tree, and build
+  -c <CONFIG> --script-only [-d <DIR>] [-w <DIR>] [-t <KIND>]
+          Make the boot script of a configuration
+  -r <SCRIPT> -b <TREE> [-d <DIR>] [-w <DIR>]
+          Run a boot script on the host tree, and build
+  -b <TREE> [-w <DIR>]
+          Build from a host tree as it is
+  --show <TREE>
+          List a tree on standard output
+  --gen <N>
+          Build a generated tree, and say in a line what it needs
 
--d goes with -c and -r, -t and --script-only with -c, -w and --check with the first three modes; --check does not go with --script-only.
+A build writes host.dtb and the files of each guest, with -c also boot.source, and puts a report on standard output.
 
 Example:
-  dom0less -c boot.cfg -d /srv/tftp -w out";
+  dom0less -c config -d files -w out";
 
 /// The command, without its options.
 fn new_command<'a>(alloc: Global) -> Command<'a>
@@ -66,21 +90,9 @@ fn with_letters<'a>(alloc: Global, command: Command<'a>) -> Result<Command<'a>, 
     ensures { IfOk result (λ made. app_of made ≡ fold with_rule (app_of command.entry) letters) }
 {
     let made = command
-        .arg(lettered(alloc, "config", 'c', "CONFIG", "Build from a configuration"))?
-        .arg(lettered(
-            alloc,
-            "script",
-            'r',
-            "SCRIPT",
-            "Run a boot script on the tree of -b, and build",
-        ))?
-        .arg(lettered(
-            alloc,
-            "tree",
-            'b',
-            "TREE",
-            "The host tree; alone: build from it as it is",
-        ))?
+        .arg(lettered(alloc, "config", 'c', "CONFIG", CONFIG_HELP))?
+        .arg(lettered(alloc, "script", 'r', "SCRIPT", SCRIPT_HELP))?
+        .arg(lettered(alloc, "tree", 'b', "TREE", TREE_HELP))?
         .arg(lettered(alloc, "files", 'd', "DIR", FILES_HELP))?
         .arg(lettered(alloc, "outputs", 'w', "DIR", OUTPUTS_HELP))?
         .arg(lettered(alloc, "kind", 't', "KIND", KIND_HELP))?;
@@ -92,9 +104,8 @@ fn with_names<'a>(alloc: Global, command: Command<'a>) -> Result<Command<'a>, Al
     ensures { IfOk result (λ made. app_of made ≡ fold with_rule (app_of command.entry) names) }
 {
     let made = command
-        .arg(flag(alloc, "script-only", "Write boot.source and stop"))?
-        .arg(flag(alloc, "check", "Audit images in place of writing them"))?
-        .arg(named(alloc, "show", "TREE", "List a tree"))?
+        .arg(flag(alloc, "script-only", SCRIPT_ONLY_HELP))?
+        .arg(named(alloc, "show", "TREE", SHOW_HELP))?
         .arg(named(alloc, "gen", "N", GENERATED_HELP))?;
     Ok(made)
 }
@@ -150,7 +161,6 @@ fn options_in<'a>(matches: &ArgMatches<'a>) -> Options<'a>
         outputs: value_of(matches, "outputs"),
         kind: value_of(matches, "kind"),
         script_only: is_set(matches, "script-only"),
-        check: is_set(matches, "check"),
         show: value_of(matches, "show"),
         generate: value_of(matches, "gen"),
     }

@@ -1,15 +1,15 @@
 //! The rules of usage.
-ghost use Rattle.std.specs.Prelude.{◌≡◌, option_map, option_and_then};
+ghost use Rattle.std.specs.Prelude.{◌≡◌, option_map};
 ghost use Rattle.std.specs.Option.{option_copied};
-ghost use Rattle.dom0less_words.specs.Usage.{asked_of, kind_of, generated_of, has_no_script_options, stands_alone, of_config, where_ok, built_or_checked, of_mode, OfReplay, OfReady};
-ghost use Rattle.dom0less_words.specs.Meant.{meant, meant_source};
+ghost use Rattle.dom0less_words.specs.Usage.{asked_of, load_kind_of, generated_of, has_no_script_options, stands_alone, of_config, of_mode, OfReplay, OfReady, OfShow, OfGenerate};
+ghost use Rattle.dom0less_words.specs.Meant.{meant};
 ghost use Rattle.dom0less_words.specs.KeptOptions.{meant_options};
 
 use crate::asked::{Asked, ScriptAsked, Source};
 use dl_base::read_number;
 use ib_script::LoadKind;
 
-/// The value of each option, and whether each flag was given.
+/// The value of each option, and whether `--script-only` was given.
 #[derive(Clone, Copy)]
 pub(crate) struct Options<'a> {
     pub(crate) config: Option<&'a str>,
@@ -19,7 +19,6 @@ pub(crate) struct Options<'a> {
     pub(crate) outputs: Option<&'a str>,
     pub(crate) kind: Option<&'a str>,
     pub(crate) script_only: bool,
-    pub(crate) check: bool,
     pub(crate) show: Option<&'a str>,
     pub(crate) generate: Option<&'a str>,
 }
@@ -38,35 +37,15 @@ pub(crate) fn asked<'a>(options: &Options<'a>) -> Option<Asked<'a>>
         options.show,
         options.generate,
     ) {
-        (Some(config), None, None, None, None) => of_config(options, config),
+        (Some(config), None, None, None, None) => {
+            let kind = read_load_kind(options.kind)?;
+            Some(of_config(options, config, kind))
+        }
         (None, Some(script), Some(tree), None, None) => of_replay(options, script, tree),
         (None, None, Some(tree), None, None) => of_ready(options, tree),
-        (None, None, None, Some(tree), None) => {
-            where_ok(stands_alone(options), Asked::Show(tree))
-        }
-        (None, None, None, None, Some(word)) => {
-            let number = read_generated(word)?;
-            where_ok(stands_alone(options), Asked::Generate(number))
-        }
+        (None, None, None, Some(tree), None) => of_show(options, tree),
+        (None, None, None, None, Some(word)) => of_generate(options, word),
         _ => None,
-    }
-}
-
-/// This, where the test holds.
-fn where_ok<'a>(holds: bool, asked: Asked<'a>) -> Option<Asked<'a>>
-    ensures { option_map meant result ≡ where_ok holds (meant asked.entry) }
-{
-    if holds { Some(asked) } else { None }
-}
-
-/// A build, or the audit of one.
-fn built_or_checked<'a>(check: bool, source: Source<'a>, outputs: Option<&'a str>) -> Asked<'a>
-    ensures { meant result ≡ built_or_checked check (meant_source source.entry) (option_copied outputs.entry) }
-{
-    if check {
-        Asked::Check(source, outputs)
-    } else {
-        Asked::Build(source, outputs)
     }
 }
 
@@ -77,32 +56,26 @@ fn has_no_script_options(options: &Options<'_>) -> bool
     options.kind.is_none() && !options.script_only
 }
 
-/// None of the options that go with a build is given.
+/// No option but the mode's own is given.
 fn stands_alone(options: &Options<'_>) -> bool
     ensures { result ≡ stands_alone (meant_options options.now) }
 {
-    options.files.is_none()
-        && options.outputs.is_none()
-        && !options.check
-        && has_no_script_options(options)
+    options.files.is_none() && options.outputs.is_none() && has_no_script_options(options)
 }
 
 /// What a configuration is read for.
-fn of_config<'a>(options: &Options<'a>, config: &'a str) -> Option<Asked<'a>>
-    ensures { option_map meant result ≡ option_and_then (of_config (meant_options options.now) config.entry.now) (kind_of (option_copied options.now.kind)) }
+fn of_config<'a>(options: &Options<'a>, config: &'a str, kind: LoadKind) -> Asked<'a>
+    ensures { meant result ≡ of_config (meant_options options.now) config.entry.now kind }
 {
-    let kind = read_kind(options.kind)?;
     if options.script_only {
-        let script = ScriptAsked {
+        Asked::Script(ScriptAsked {
             config,
             files: options.files,
             outputs: options.outputs,
             kind,
-        };
-        where_ok(!options.check, Asked::Script(script))
+        })
     } else {
-        let source = Source::Config(config, options.files, kind);
-        Some(built_or_checked(options.check, source, options.outputs))
+        Asked::Build(Source::Config(config, options.files, kind), options.outputs)
     }
 }
 
@@ -111,20 +84,30 @@ fn of_replay<'a>(options: &Options<'a>, script: &'a str, tree: &'a str) -> Optio
     ensures { option_map meant result ≡ of_mode (meant_options options.now) (OfReplay script.entry.now tree.entry.now) }
 {
     let source = Source::Replay(script, tree, options.files);
-    where_ok(
-        has_no_script_options(options),
-        built_or_checked(options.check, source, options.outputs),
-    )
+    has_no_script_options(options).then_some(Asked::Build(source, options.outputs))
 }
 
 /// What a ready tree is read for.
 fn of_ready<'a>(options: &Options<'a>, tree: &'a str) -> Option<Asked<'a>>
     ensures { option_map meant result ≡ of_mode (meant_options options.now) (OfReady tree.entry.now) }
 {
-    where_ok(
-        options.files.is_none() && has_no_script_options(options),
-        built_or_checked(options.check, Source::Ready(tree), options.outputs),
-    )
+    let may_stand = options.files.is_none() && has_no_script_options(options);
+    may_stand.then_some(Asked::Build(Source::Ready(tree), options.outputs))
+}
+
+/// The listing of a tree.
+fn of_show<'a>(options: &Options<'a>, tree: &'a str) -> Option<Asked<'a>>
+    ensures { option_map meant result ≡ of_mode (meant_options options.now) (OfShow tree.entry.now) }
+{
+    stands_alone(options).then_some(Asked::Show(tree))
+}
+
+/// The build of a generated tree.
+fn of_generate<'a>(options: &Options<'a>, word: &str) -> Option<Asked<'a>>
+    ensures { option_map meant result ≡ of_mode (meant_options options.now) (OfGenerate word.now) }
+{
+    let number = read_generated(word)?;
+    stands_alone(options).then_some(Asked::Generate(number))
 }
 
 /// A number up to the limit.
@@ -138,8 +121,8 @@ fn read_generated(word: &str) -> Option<u64>
 }
 
 /// Where files are loaded from.
-fn read_kind(word: Option<&str>) -> Option<LoadKind>
-    ensures { result ≡ kind_of (option_copied word.entry) }
+fn read_load_kind(word: Option<&str>) -> Option<LoadKind>
+    ensures { result ≡ load_kind_of (option_copied word.entry) }
 {
     match word {
         None => Some(LoadKind::Tftp),
