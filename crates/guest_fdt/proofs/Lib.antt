@@ -1,0 +1,16 @@
+pub mod Instances
+pub mod Siblings
+pub mod Copying
+pub mod Lists
+pub mod Cleaning
+pub mod EntryLemmas
+pub mod NodeParts
+pub mod MemoryLemmas
+pub mod FindingLemmas
+pub mod LinkLemmas
+pub mod NameLemmas
+pub mod OrderLemmas
+pub mod PartialLemmas
+pub mod InterruptLemmas
+pub mod TextLemmas
+pub mod TreeLaw
