@@ -14,3 +14,11 @@ pub mod PartialLemmas
 pub mod InterruptLemmas
 pub mod TextLemmas
 pub mod TreeLaw
+pub mod RamRanges
+pub mod GuestItems
+pub mod GuestFits
+pub mod PlannedGuests
+pub mod GuestBounds
+pub mod GuestMemory
+pub mod GuestInterrupts
+pub mod PlannedTreeLemmas

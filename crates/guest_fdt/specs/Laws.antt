@@ -1,12 +1,8 @@
 -- A guest's tree lists what the guest's description says.
-use Rattle.std.specs.Prelude.{◌≡◌, ℕ, ◌/◌, ◌^◌, ◌<◌, ◌==◌, Bool, true, false, not, IsTrue, List, All, flat_map, Option, Some, None}
+use Rattle.std.specs.Prelude.{◌≡◌, ℕ, ◌/◌, ◌^◌, ◌<◌, ◌==◌, Bool, true, not, IsTrue, List, All, flat_map, Option, Some, None}
 use Rattle.std.specs.List.{list_all}
 use Rattle.dl_base.specs.Consecutive.{numbers, is_in}
-use Rattle.dl_base.specs.Maps.{Target, target_of}
 use Rattle.dl_base.specs.declared.ranges.BaseSize.{BaseSize}
-use Rattle.dl_base.specs.declared.ranges.Kind.{Kind}
-use Rattle.dl_base.specs.declared.ranges.Kind.TheVariants.{Ram, Device, Shared}
-use Rattle.dl_base.specs.declared.ranges.MapRange.{MapRange}
 use Rattle.dl_base.specs.declared.layout.Layout.{Layout}
 use Rattle.domain_plan.specs.declared.planned.GuestPlan.{GuestPlan}
 use Rattle.domain_plan.specs.Memories.{is_listed, is_ram}

@@ -7,3 +7,4 @@ pub mod Listed
 pub mod Described
 pub mod Bounds
 pub mod Laws
+pub mod PlannedTrees
