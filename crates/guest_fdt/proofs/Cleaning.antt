@@ -2,14 +2,14 @@
 use Rattle.std.proofs.Common.{◌≡◌, ℕ, Bool, true, false, not, cond, List, [], ◌∷◌, ◌++◌, Option, Some, map, filter, flat_map, codes, refl, sym, ap, ◌∙◌}
 use Rattle.std.proofs.lemmas.List.{map-append}
 use Rattle.std.specs.Prelude.{bytes_eq}
-use Rattle.std.specs.Option.{option_map_or}
 use Rattle.std.proofs.lemmas.Slice.Eq.{bytes_eq-Decides}
 use Rattle.fdt_tree.specs.Tree.{Bytes, Property, Trees, none, tree, Tree, property_of}
 use Rattle.guest_fdt.specs.Copies.{is_binding, kept, cleaned, cleaned_in}
 use Rattle.std.specs.Prelude.{◌==◌}
+use Rattle.fdt_nodes.specs.Values.{passes}
 use Rattle.tree_parts.specs.Nodes.{on_some}
 use Rattle.guest_fdt.specs.Entries.{triples}
-use Rattle.guest_fdt.specs.Listed.{Device, is_memory, devices_below, interrupts_of, interrupts_in, in_order}
+use Rattle.guest_fdt.specs.Listed.{Device, is_memory_node, devices_below, interrupts_of, interrupts_in, in_order}
 
 -- a property that does not bind is found as before
 pub property-kept : (ps : List Property) (name : Bytes) → is_binding name ≡ false → property_of (kept ps) name ≡ property_of ps name
@@ -33,9 +33,9 @@ unfolding is_binding
 interrupts-stay = refl
 
 -- a copy is a memory node where its node is one
-pub memory-cleaned : (t : Tree) → is_memory (cleaned t) ≡ is_memory t
+pub memory-cleaned : (t : Tree) → is_memory_node (cleaned t) ≡ is_memory_node t
 memory-cleaned t =
-    ap (λ (o : Option Bytes). option_map_or (λ value. bytes_eq value (codes "memory" ++ 0 ∷ [])) o false) (property-kept t.properties (codes "device_type") device_type-stays)
+    ap (λ (o : Option Bytes). passes (λ value. bytes_eq value (codes "memory" ++ 0 ∷ [])) o) (property-kept t.properties (codes "device_type") device_type-stays)
 
 -- a device without what binds it
 abbrev pub cleaned_device : Device → Device

@@ -1,5 +1,5 @@
 -- The interrupts of a partial tree's items, where none has a fault, are those that a reader finds in the tree.
-use Rattle.std.proofs.Common.{◌≡◌, ◌<◌, ◌≤◌, ◌+◌, ◌*◌, ◌/◌, ◌%◌, ◌⊎◌, inl, inr, ℕ, zero, suc, Bool, true, false, not, cond, List, [], ◌∷◌, ◌++◌, Option, Some, None, map, filter, flat_map, length, codes, refl, sym, ap, ◌∙◌, subst, arith}
+use Rattle.std.proofs.Common.{◌≡◌, ◌<◌, ◌≤◌, ◌+◌, ◌⊎◌, inl, inr, ℕ, Bool, true, false, not, cond, List, [], ◌∷◌, ◌++◌, Option, Some, None, map, filter, flat_map, codes, refl, sym, ap, ◌∙◌, subst, arith}
 use Rattle.std.specs.Prelude.{◌==◌, ◌&&◌, ◌||◌, option_map, option_and_then, nat_lt, is_some, is_none}
 use Rattle.std.specs.Option.{option_map_or}
 use Rattle.std.specs.List.{list_all, list_any}
@@ -16,7 +16,7 @@ use Rattle.dl_base.specs.declared.why.Why.TheVariants as whys
 use Rattle.fdt_tree.specs.Tree.{Bytes, Property, Trees, none, tree, Tree, Place, at, find_place, property_of}
 use Rattle.fdt_nodes.specs.Nodes as nodes
 use Rattle.fdt_nodes.specs.Values as values
-use Rattle.fdt_nodes.specs.Entries.{is_whole, split_entries, pieces}
+use Rattle.fdt_nodes.specs.Entries.{is_whole, split_entries}
 use Rattle.dl_base.specs.Reasons.{described}
 use Rattle.passthrough_dtb.specs.Whole.{passed_nodes, partial_item, partial_reason, item_in}
 use Rattle.passthrough_dtb.specs.Devices.{is_device, devices, device_item, device_reason, host_node, lacks_path, has_bad_path, has_bad_cells, lacks_host, lacks_iommu, is_extended, has_bad_reg, has_bad_interrupts, has_bad_length, properties_of}
@@ -27,7 +27,7 @@ use Rattle.passthrough_dtb.specs.Items.{partial_items}
 use Rattle.passthrough_dtb.specs.declared.interrupts.Interrupt.{Interrupt}
 use Rattle.domain_plan.specs.Giving.{irq_of}
 use Rattle.tree_parts.specs.Nodes.{on_some}
-use Rattle.guest_fdt.specs.Entries.{triples}
+use Rattle.guest_fdt.specs.Entries.{triple, triples}
 use Rattle.guest_fdt.specs.Listed.{devices_below, devices_in, interrupts_of, interrupts_in, in_order}
 use Rattle.guest_fdt.specs.Described.{partial_devices}
 use Rattle.guest_fdt.proofs.PartialLemmas.{passed, or-false}
@@ -42,32 +42,14 @@ pair_of t = (t.0, t.1)
 abbrev said : Interrupt → Pair
 said i = (i.kind, i.number)
 
--- threes of cells, read in both ways
-threes : (n : ℕ) (bytes : Bytes) → length bytes ≡ 12 * n → map pair_of (triples bytes) ≡ map said (map theirs.interrupt_in (pieces 12 n bytes))
-threes zero [] e = refl
-threes zero (b ∷ bytes) e = absurd (omega arith)
-threes (suc n) [] e = absurd (omega arith)
-threes (suc n) (a ∷ []) e = absurd (omega arith)
-threes (suc n) (a ∷ b ∷ []) e = absurd (omega arith)
-threes (suc n) (a ∷ b ∷ c ∷ []) e = absurd (omega arith)
-threes (suc n) (a ∷ b ∷ c ∷ d ∷ []) e = absurd (omega arith)
-threes (suc n) (a ∷ b ∷ c ∷ d ∷ f ∷ []) e = absurd (omega arith)
-threes (suc n) (a ∷ b ∷ c ∷ d ∷ f ∷ g ∷ []) e = absurd (omega arith)
-threes (suc n) (a ∷ b ∷ c ∷ d ∷ f ∷ g ∷ h ∷ []) e = absurd (omega arith)
-threes (suc n) (a ∷ b ∷ c ∷ d ∷ f ∷ g ∷ h ∷ i ∷ []) e = absurd (omega arith)
-threes (suc n) (a ∷ b ∷ c ∷ d ∷ f ∷ g ∷ h ∷ i ∷ j ∷ []) e = absurd (omega arith)
-threes (suc n) (a ∷ b ∷ c ∷ d ∷ f ∷ g ∷ h ∷ i ∷ j ∷ k ∷ []) e = absurd (omega arith)
-threes (suc n) (a ∷ b ∷ c ∷ d ∷ f ∷ g ∷ h ∷ i ∷ j ∷ k ∷ l ∷ []) e = absurd (omega arith)
-threes (suc n) (a ∷ b ∷ c ∷ d ∷ f ∷ g ∷ h ∷ i ∷ j ∷ k ∷ l ∷ m ∷ rest) e =
-    let first : Interrupt = theirs.interrupt_in (a ∷ b ∷ c ∷ d ∷ f ∷ g ∷ h ∷ i ∷ j ∷ k ∷ l ∷ m ∷ []) in
-    ap (λ z. said first ∷ z) (threes n rest (omega arith))
+-- pieces of three cells, read in both ways
+same-pairs : (parts : List Bytes) → map pair_of (map triple parts) ≡ map said (map theirs.interrupt_in parts)
+same-pairs [] = refl
+same-pairs (part ∷ parts) = ap (λ z. pair_of (triple part) ∷ z) (same-pairs parts)
 
 -- a whole value, read in both ways
 whole-threes : (value : Bytes) → is_whole 3 value ≡ true → map pair_of (triples value) ≡ map said (theirs.interrupts_in value)
-whole-threes value whole =
-    let divides : length value % 12 ≡ 0 = grind (arith, nat_tests) in
-    let count : length value ≡ 12 * (length value / 12) = omega arith in
-    threes (length value / 12) value count ∙ ap (λ b. map said (cond b (map theirs.interrupt_in (split_entries 3 value)) [])) (sym whole)
+whole-threes value whole = same-pairs (split_entries 3 value) ∙ ap (λ b. map said (cond b (map theirs.interrupt_in (split_entries 3 value)) [])) (sym whole)
 
 -- the numbers of the interrupts among items
 abbrev pub irq_numbers : List Described → List ℕ

@@ -1,11 +1,11 @@
 -- What a partial tree without a fault gives: nothing that is copied is a memory node, and its interrupts are those of its devices.
-use Rattle.std.proofs.Common.{◌≡◌, Bool, true, false, not, List, [], ◌∷◌, ◌++◌, Option, Some, None, codes, refl, ap}
-use Rattle.std.specs.Prelude.{IsTrue, ◌&&◌, ◌||◌, bytes_eq, option_map, option_and_then}
+use Rattle.std.proofs.Common.{◌≡◌, Bool, true, false, not, List, [], ◌∷◌, Option, Some, None, codes, refl, ap}
+use Rattle.std.specs.Prelude.{IsTrue, ◌&&◌, ◌||◌, option_map, option_and_then}
 use Rattle.std.specs.Option.{option_map_or}
 use Rattle.std.specs.List.{list_all}
 use Rattle.dl_base.specs.declared.why.Why.{Why}
 use Rattle.dl_base.specs.declared.why.Why.TheVariants.{Missing, BadLength, BadValue}
-use Rattle.fdt_tree.specs.Tree.{Bytes, Tree, Place, at, find_place, property_of}
+use Rattle.fdt_tree.specs.Tree.{Bytes, Tree, Place, at, find_place}
 use Rattle.fdt_nodes.specs.Nodes as nodes
 use Rattle.fdt_nodes.specs.Values as values
 use Rattle.dl_base.specs.Reasons.{where_so, first_reason}
@@ -23,11 +23,7 @@ no-memory-at partial path plain = by (find_place partial path) plain
   where
     here : (p : Place) (o : Option Tree) → values.is_memory (option_map_or (λ (t : Tree). t.properties) o []) ≡ false → IsTrue (is_no_memory o)
     here p None plain = refl
-    here p (Some t) plain = by_value (property_of t.properties (codes "device_type")) plain
-      where
-        by_value : (o : Option Bytes) → values.passes (λ value. bytes_eq value (codes "memory" ++ 0 ∷ [])) o ≡ false → not (option_map_or (λ value. bytes_eq value (codes "memory" ++ 0 ∷ [])) o false) ≡ true
-        by_value None h = refl
-        by_value (Some value) h = ap not h
+    here p (Some t) plain = ap not plain
 
     by : (o : Option Place) → values.is_memory (option_map_or (λ (node : nodes.Node). node.properties) (option_map (nodes.node_at partial) o) []) ≡ false → IsTrue (is_no_memory (option_and_then (at partial) o))
     by None plain = refl

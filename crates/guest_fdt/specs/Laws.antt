@@ -11,12 +11,12 @@ use Rattle.guest_fdt.specs.Bounds.{IsBounded}
 use Rattle.guest_fdt.specs.Copies.{found_in, copied_paths}
 use Rattle.guest_fdt.specs.Described.{described, partial_devices}
 use Rattle.guest_fdt.specs.GuestTree.{guest_tree}
-use Rattle.guest_fdt.specs.Listed.{is_memory, interrupts_in, listed}
+use Rattle.guest_fdt.specs.Listed.{is_memory_node, interrupts_in, listed}
 
 -- what is found is no memory node
 abbrev pub is_no_memory : Option Tree → Bool
 is_no_memory None = true
-is_no_memory (Some node) = not (is_memory node)
+is_no_memory (Some node) = not (is_memory_node node)
 
 -- an id has no NUL
 abbrev pub is_text : Bytes → Bool

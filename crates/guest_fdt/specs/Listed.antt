@@ -1,22 +1,22 @@
 -- What a reader finds in any device tree: memories, devices, interrupts, shared regions and ports.
-use Rattle.std.specs.Prelude.{ℕ, ◌==◌, Bool, false, List, [], ◌∷◌, ◌++◌, map, filter, flat_map, fold, bytes_eq, codes, Option, Some, None, option_and_then}
-use Rattle.std.specs.Option.{option_map_or}
+use Rattle.std.specs.Prelude.{ℕ, ◌==◌, Bool, List, [], ◌∷◌, ◌++◌, map, filter, flat_map, fold, codes, Option, Some, None, option_and_then}
 use Rattle.std.specs.BTreeSet.{insert_key}
 use Rattle.std.specs.Ordering.{nat_cmp}
 use Rattle.dl_base.specs.declared.ranges.BaseSize.{BaseSize}
 use Rattle.fdt_tree.specs.Tree.{Bytes, Property, Trees, none, tree, Tree, property_of}
-use Rattle.fdt_tree.specs.Values.{strings, has_text, cells_of}
+use Rattle.fdt_tree.specs.Values.{strings, cells_of}
+use Rattle.fdt_nodes.specs.Values.{is_compatible, is_memory}
 use Rattle.tree_parts.specs.Nodes.{on_some}
 use Rattle.guest_fdt.specs.Found.{list_of, node_found}
 use Rattle.guest_fdt.specs.Entries.{reg_entries, triples_of}
 
--- a memory node (3.4): its first `device_type` is exactly "memory"
-abbrev pub is_memory : Tree → Bool
-is_memory node = option_map_or (λ value. bytes_eq value (codes "memory" ++ 0 ∷ [])) (property_of node.properties (codes "device_type")) false
+-- a memory node
+abbrev pub is_memory_node : Tree → Bool
+is_memory_node node = is_memory node.properties
 
 -- the memory of a tree: the entries of the memory nodes below the root
 unfoldable pub memories_in : Tree → List BaseSize
-memories_in t = flat_map (λ (node : Tree). reg_entries (cells_of t.properties) node.properties) (filter is_memory (list_of t.children))
+memories_in t = flat_map (λ (node : Tree). reg_entries (cells_of t.properties) node.properties) (filter is_memory_node (list_of t.children))
 
 -- a node, as its path and its properties
 abbrev pub Device : Type 0
@@ -59,7 +59,7 @@ region_id properties = option_and_then (λ bytes. first_string (strings bytes)) 
 
 -- a node of a shared region
 abbrev pub is_region : Tree → Bool
-is_region node = option_map_or (λ value. has_text value (codes "xen,shared-memory-v1")) (property_of node.properties (codes "compatible")) false
+is_region node = is_compatible node.properties (codes "xen,shared-memory-v1")
 
 -- the regions of a node: its id with each entry
 abbrev pub regions_of : Option (ℕ × ℕ) → Tree → List Region
