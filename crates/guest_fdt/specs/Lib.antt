@@ -1,0 +1,10 @@
+pub mod Found
+pub mod Copies
+pub mod Machine
+pub mod GuestTree
+pub mod Entries
+pub mod Listed
+pub mod Described
+pub mod Bounds
+pub mod Laws
+pub mod PlannedTrees
