@@ -101,6 +101,13 @@ impl Machine {
         &self.tree
     }
 
+    /// Gives back the tree as the commands left it, and the files that were loaded. Takes no memory.
+    pub fn into_parts(self) -> (Tree, List<Loaded>)
+        ensures { result ≡ (self.tree, self.loads) }
+    {
+        (self.tree, self.loads)
+    }
+
     /// The length of the tree's file, in bytes.
     fn tree_length(&self) -> u64
         ensures { result ≡ self.now.tree_length }

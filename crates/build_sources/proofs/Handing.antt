@@ -1,0 +1,33 @@
+-- What a step hands on where it refuses nothing is what it found.
+use Rattle.std.proofs.Common.{◌≡◌, refl, subst, [], inl, inr}
+use Rattle.run_steps.specs.Endings.{Outcome}
+use Rattle.run_steps.proofs.Step.{Next, IsStep, said_as, and_then, hand_on, hand_on_step}
+use Rattle.build_sources.specs.Handed.{is, unrefused, HandsOn}
+
+module _ {A : Type 0} (Found : A → Type 0) (step : Next A → Outcome → Type 0) (law : IsStep Found step) where
+  -- what it found is handed on
+  pub handed : (x : A) → Found x → HandsOn step x
+  handed x found = law.gives x found (is x) unrefused refl
+
+  -- and the other way round
+  pub found_of : (x : A) → HandsOn step x → Found x
+  found_of x hands = elim (law.splits (is x) unrefused hands) [
+    | inl given ↦ subst Found given.2 given.1
+    | inr refused ↦ absurd (law.refuses [] [] refused)
+  ]
+
+  -- so the step is one that finds what it hands on
+  pub handed_step : IsStep (HandsOn step) step
+  handed_step = said_as Found (HandsOn step) step law handed found_of
+
+-- two steps, one after the other
+module _ {A B : Type 0} (first : Next A → Outcome → Type 0) (second : A → Next B → Outcome → Type 0) (one : IsStep (HandsOn first) first) where
+  abbrev both : Next B → Outcome → Type 0
+  both next outcome = first (λ x. second x next) outcome
+
+  pub both_step : ((x : A) → IsStep (HandsOn (second x)) (second x)) → IsStep (HandsOn both) both
+  both_step other = handed_step _ both (and_then (HandsOn first) (λ x. HandsOn (second x)) first second one other)
+
+-- a step, and what is made of what it hands on
+pub made_step : {A B : Type 0} (first : Next A → Outcome → Type 0) (make : A → B) → IsStep (HandsOn first) first → IsStep (HandsOn (λ next outcome. first (λ x. next (make x)) outcome)) (λ next outcome. first (λ x. next (make x)) outcome)
+made_step first make one = both_step first (λ x. hand_on (make x)) one (λ x. handed_step (λ y. y ≡ make x) (hand_on (make x)) (hand_on_step (make x)))

@@ -1,0 +1,6 @@
+pub mod ConfigSteps
+pub mod Handing
+pub mod SourceSteps
+pub mod Avoided
+pub mod OneOutcome
+pub mod ScriptLoads

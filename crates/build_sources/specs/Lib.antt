@@ -1,0 +1,7 @@
+pub mod Handed
+pub mod Configs
+pub mod Scripts
+pub mod Sources
+pub mod Replays
+pub mod Partials
+pub mod Meant

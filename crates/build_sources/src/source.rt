@@ -1,0 +1,122 @@
+// Where a build begins.
+ghost use Rattle.std.specs.Prelude.{◌≡◌, IfOk, IfErr, true, length};
+ghost use Rattle.std.specs.Option.{option_copied};
+ghost use Rattle.script_run.specs.Effect.{has_good_names, load_count};
+ghost use Rattle.dom0less_words.specs.Meant.{meant_source};
+ghost use Rattle.run_steps.specs.Steps.{nothing};
+ghost use Rattle.run_steps.specs.Stops.{IsDue, IsOwnDue, Grew};
+ghost use Rattle.build_sources.specs.Handed.{HandsOn};
+ghost use Rattle.build_sources.specs.Meant.{meant_made, meant_stand};
+ghost use Rattle.build_sources.specs.Replays.{AfterMadeRun};
+ghost use Rattle.build_sources.specs.Sources.{AfterConfigured, AfterReady, AfterSource, StandsOn, folder_of as files_folder};
+
+use crate::configuration::{Made, make_script};
+use crate::replay::replay;
+use crate::script::run_script;
+use crate::stand::Stand;
+use dl_base::{Bytes, Files, List};
+use dom0less_words::Source;
+use ib_script::LoadKind;
+use run_steps::{Stop, read_tree};
+use std::alloc::Global;
+
+/// The folder of the files that a configuration or a script names, where one is given.
+pub fn folder_of<'a>(source: &Source<'a>) -> Option<&'a str>
+    ensures { option_copied result ≡ files_folder (meant_source source.now) }
+{
+    match *source {
+        Source::Config(_, folder, _) => folder,
+        Source::Replay(_, _, folder) => folder,
+        Source::Ready(_) => None,
+    }
+}
+
+/// Reads what a build stands on, from where it begins: of a configuration the script is made and run on the host's tree, of a
+/// script that on its tree, and a ready tree is read alone. `outputs` is the folder of the outputs, where one is given, which
+/// a configuration's boot script is one of. Writes nothing.
+pub fn read_source<F: Files>(
+    alloc: Global,
+    source: &Source<'_>,
+    outputs: Option<&str>,
+    files: &mut F,
+) -> Result<Stand, Stop>
+    ensures stands { IfOk result (λ stand. StandsOn (F.held files.old) (meant_source source.now) (option_copied outputs.entry) (meant_stand stand)) }
+    ensures stopped { IfErr result (λ stop. IsDue (AfterSource (F.held files.old) (meant_source source.now) (option_copied outputs.entry) nothing) (F.faults files.old, F.absents files.old, F.overlong files.old) (F.faults files.new, F.absents files.new, F.overlong files.new) stop) }
+    ensures grew { Grew (F.faults files.old, F.absents files.old, F.overlong files.old) (F.faults files.new, F.absents files.new, F.overlong files.new) }
+    ensures kept { F.held files.new ≡ F.held files.old }
+{
+    match *source {
+        Source::Config(config, folder, kind) => {
+            read_configuration(alloc, config, folder, kind, outputs, files)
+        }
+        Source::Replay(script, tree, folder) => replay(alloc, script, tree, folder, files),
+        Source::Ready(tree) => read_ready(alloc, tree, files),
+    }
+}
+
+/// What a build stands on that begins with the configuration of this file, the folder of its files, and where its script loads
+/// files from.
+fn read_configuration<F: Files>(
+    alloc: Global,
+    config: &str,
+    folder: Option<&str>,
+    kind: LoadKind,
+    outputs: Option<&str>,
+    files: &mut F,
+) -> Result<Stand, Stop>
+    ensures stands { IfOk result (λ stand. HandsOn (AfterConfigured (F.held files.old) config.now (option_copied folder.entry) kind (option_copied outputs.entry)) (meant_stand stand)) }
+    ensures stopped { IfErr result (λ stop. IsDue (AfterConfigured (F.held files.old) config.now (option_copied folder.entry) kind (option_copied outputs.entry) nothing) (F.faults files.old, F.absents files.old, F.overlong files.old) (F.faults files.new, F.absents files.new, F.overlong files.new) stop) }
+    ensures grew { Grew (F.faults files.old, F.absents files.old, F.overlong files.old) (F.faults files.new, F.absents files.new, F.overlong files.new) }
+    ensures kept { F.held files.new ≡ F.held files.old }
+{
+    let made = make_script(alloc, config, folder, kind, files)?;
+    run_made(alloc, outputs, made)
+}
+
+/// The same of a configuration whose script was made.
+fn run_made(alloc: Global, outputs: Option<&str>, made: Made) -> Result<Stand, Stop>
+    requires named { has_good_names made.script ≡ true }
+    requires sized { length made.sizes.items ≡ load_count made.script }
+    ensures stands { IfOk result (λ stand. HandsOn (AfterMadeRun (option_copied outputs.entry) (meant_made made)) (meant_stand stand)) }
+    ensures stopped { IfErr result (λ stop. IsOwnDue (AfterMadeRun (option_copied outputs.entry) (meant_made made) nothing) stop) }
+{
+    let mut before = List::new(alloc);
+    before.push(made.script_output(alloc, outputs)?)?;
+    let lines = made.unused_lines(alloc)?;
+    let bytes = made.tree.length;
+    let flat = made.tree.flat;
+    let (tree, loads) = run_script(
+        alloc,
+        "boot.source",
+        &made.script,
+        &made.sizes,
+        flat.tree,
+        bytes,
+    )?;
+    Ok(Stand {
+        tree,
+        reserves: flat.reserves,
+        boot: flat.boot,
+        loads,
+        before,
+        lines,
+    })
+}
+
+/// What a build stands on that begins with the ready tree of this file.
+fn read_ready<F: Files>(alloc: Global, tree: &str, files: &mut F) -> Result<Stand, Stop>
+    ensures stands { IfOk result (λ stand. HandsOn (AfterReady (F.held files.old) tree.now) (meant_stand stand)) }
+    ensures stopped { IfErr result (λ stop. IsDue (AfterReady (F.held files.old) tree.now nothing) (F.faults files.old, F.absents files.old, F.overlong files.old) (F.faults files.new, F.absents files.new, F.overlong files.new) stop) }
+    ensures grew { Grew (F.faults files.old, F.absents files.old, F.overlong files.old) (F.faults files.new, F.absents files.new, F.overlong files.new) }
+    ensures kept { F.held files.new ≡ F.held files.old }
+{
+    let flat = read_tree(alloc, tree, files)?.flat;
+    Ok(Stand {
+        tree: flat.tree,
+        reserves: flat.reserves,
+        boot: flat.boot,
+        loads: List::new(alloc),
+        before: List::new(alloc),
+        lines: Bytes::new(alloc),
+    })
+}
