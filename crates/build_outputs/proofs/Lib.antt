@@ -1,3 +1,5 @@
 mod Refused
+mod TreeFiles
 mod Reports
 mod Zipped
+mod Folders

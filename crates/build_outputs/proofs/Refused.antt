@@ -1,6 +1,6 @@
 -- Which item a build refuses.
-use Rattle.std.proofs.Common.{◌≡◌, ◌≤◌, ◌<◌, ◌∙◌, refl, sym, ap, subst, arith, inl, inr, ℕ, Bool, true, false, List, [], ◌∷◌, length, Some, None}
-use Rattle.std.specs.Prelude.{◌⊎◌, Option, Result, Ok, Err, nat_lt, if◌then◌else◌}
+use Rattle.std.proofs.Common.{◌≡◌, ◌≤◌, ◌<◌, ◌∙◌, refl, sym, ap, subst, arith, inl, inr, ℕ, Bool, true, false, List, length, Some, None}
+use Rattle.std.specs.Prelude.{Option, Result, Ok, Err, nat_lt, if◌then◌else◌}
 use Rattle.std.specs.Option.{option_or}
 use Rattle.dl_base.specs.declared.item.Item.{Item}
 use Rattle.dl_base.specs.declared.why.Why.{Why}
@@ -21,7 +21,9 @@ use Rattle.tree_plan.specs.TreePlans.{TreePlan, plan_of, IsFaultOf}
 use Rattle.build_outputs.specs.Builds.{last_refused, unless_refused, with_last, built_of, IsItemRefusal, AfterItems}
 use Rattle.build_outputs.specs.Lengths.{tree_item, too_long, tree_too_long, refused_trees}
 use Rattle.build_outputs.specs.Names.{host_name}
-use Rattle.build_outputs.specs.Outputs.{host_output}
+use Rattle.build_outputs.specs.Outputs.{host_output, tree_outputs, written_trees}
+use Rattle.build_outputs.specs.TooLong.{IsLengthStop, IsFirstLengthStop}
+use Rattle.dl_base.specs.Outside.{File}
 
 -- a test of lengths
 too_long_where : (bytes : List ℕ) (test : Bool) → nat_lt length_limit (length bytes) ≡ test → tree_too_long bytes ≡ (if test then Some (too_long (length bytes)) else None)
@@ -68,27 +70,38 @@ module _ (boot : ℕ) (description : Description) where
         → IsOwnDue (AfterItems boot description nothing) stop
     images_due images_faults.Memory stop is said memory = memory_due stop (memory refl)
     images_due (images_faults.Refused item why) stop is said memory =
-        refused_due (item, why) stop (built_with plan (Some (item, why)) planned (ap (λ (first : Option Refusal). option_or first (refused_trees (host_output boot description ∷ []))) is)) (said item why refl)
+        refused_due (item, why) stop (built_with plan (Some (item, why)) planned (ap (λ (first : Option Refusal). option_or first (refused_trees (written_trees boot description plan))) is)) (said item why refl)
 
-    -- the bytes of the host's tree
+    -- the bytes of the host's tree, and the trees of the guests
     abbrev host : List ℕ
     host = (host_output boot description).1
 
+    abbrev trees : List File
+    trees = tree_outputs description.partials 0 plan.guests
+
     module _ (met : refused_tables plan.guests plan.free ≡ None) where
-      -- the host's tree alone can still be refused
-      last_is : last_refused boot description plan ≡ refused_trees (host_output boot description ∷ [])
-      last_is = ap (λ (first : Option Refusal). option_or first (refused_trees (host_output boot description ∷ []))) met
+      -- the trees can still be refused
+      last_is : last_refused boot description plan ≡ refused_trees (written_trees boot description plan)
+      last_is = ap (λ (first : Option Refusal). option_or first (refused_trees (written_trees boot description plan))) met
 
       -- the stop where the host's tree is too long
-      pub length_due : (stop : Stop) → (stop ≡ stops.Memory) ⊎ ((length_limit < length host) × IsOwnDue (IsItemRefusal (tree_item host_name, too_long (length host))) stop)
-          → IsOwnDue (AfterItems boot description nothing) stop
+      pub length_due : (stop : Stop) → IsLengthStop (host_output boot description) stop → IsOwnDue (AfterItems boot description nothing) stop
       length_due stop (inl memory) = memory_due stop memory
       length_due stop (inr long) =
           refused_due (tree_item host_name, too_long (length host)) stop
           (built_with plan (Some (tree_item host_name, too_long (length host))) planned
-          (last_is ∙ ap (λ (why : Option Why). or_later (tree_item host_name) why None) (is_too_long host long.0))) long.1
+          (last_is ∙ ap (λ (why : Option Why). or_later (tree_item host_name) why (refused_trees trees)) (is_too_long host long.0))) long.1
 
-      -- and nothing is refused where it is not
-      pub nothing_refused : length host ≤ length_limit → built_of boot description ≡ Ok plan
-      nothing_refused fits =
-          built_with plan None planned (last_is ∙ ap (λ (why : Option Why). or_later (tree_item host_name) why None) (is_not_too_long host fits))
+      module _ (fits : length host ≤ length_limit) where
+        -- only the guests' trees can
+        rest_is : last_refused boot description plan ≡ refused_trees trees
+        rest_is = last_is ∙ ap (λ (why : Option Why). or_later (tree_item host_name) why (refused_trees trees)) (is_not_too_long host fits)
+
+        -- the stop where the tree of a guest is too long
+        pub trees_due : (stop : Stop) → IsFirstLengthStop trees stop → IsOwnDue (AfterItems boot description nothing) stop
+        trees_due stop (inl memory) = memory_due stop memory
+        trees_due stop (inr first) = refused_due first.0 stop (built_with plan (Some first.0) planned (rest_is ∙ first.1)) first.2
+
+        -- and nothing is refused where none is
+        pub nothing_refused : refused_trees trees ≡ None → built_of boot description ≡ Ok plan
+        nothing_refused fit = built_with plan None planned (rest_is ∙ fit)

@@ -1,5 +1,5 @@
 -- What a build of a description makes, or the first item that is refused.
-use Rattle.std.specs.Prelude.{ℕ, [], ◌∷◌, Option, Some, None, Result, Ok, Err}
+use Rattle.std.specs.Prelude.{ℕ, Option, Some, None, Result, Ok, Err}
 use Rattle.std.specs.Option.{option_or}
 use Rattle.dl_base.specs.declared.status.Status.TheVariants as statuses
 use Rattle.domain_plan.specs.Refusals.{Refusal}
@@ -10,12 +10,12 @@ use Rattle.run_steps.specs.Steps.{IsRefusal, OnResult}
 use Rattle.tree_plan.specs.Descriptions.{Description}
 use Rattle.tree_plan.specs.TreePlans.{TreePlan, plan_of}
 use Rattle.build_outputs.specs.Lengths.{refused_trees}
-use Rattle.build_outputs.specs.Outputs.{host_output}
+use Rattle.build_outputs.specs.Outputs.{written_trees}
 
 -- the last items that may be refused: the guests' requests for tables, and then the lengths of the trees that are written
 abbrev pub last_refused : ℕ → Description → TreePlan → Option Refusal
 last_refused boot description plan =
-    option_or (refused_tables plan.guests plan.free) (refused_trees (host_output boot description ∷ []))
+    option_or (refused_tables plan.guests plan.free) (refused_trees (written_trees boot description plan))
 
 -- the plan, where no item is refused after it
 abbrev pub unless_refused : TreePlan → Option Refusal → Result TreePlan Refusal

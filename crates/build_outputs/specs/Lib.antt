@@ -4,3 +4,5 @@ pub mod Outputs
 pub mod Builds
 pub mod Isolation
 pub mod Made
+pub mod Spelled
+pub mod TooLong

@@ -9,6 +9,10 @@ host_name = codes "host.dtb"
 abbrev pub guest_name : ℕ → List ℕ → List ℕ
 guest_name number ending = codes "domU" ++ (decimal number ++ ending)
 
+-- its tree
+abbrev pub tree_name : ℕ → List ℕ
+tree_name number = guest_name number (codes ".dtb")
+
 -- its image
 abbrev pub image_name : ℕ → List ℕ
 image_name number = guest_name number (codes ".s2")

@@ -1,16 +1,19 @@
 -- The files that a build writes, in their order, and its report.
-use Rattle.std.specs.Prelude.{ℕ, List, ◌∷◌, length, map, Option}
-use Rattle.std.specs.List.{zip}
+use Rattle.std.specs.Prelude.{ℕ, ◌+◌, List, [], ◌∷◌, length, map, Option}
+use Rattle.std.specs.List.{zip, flat_map}
 use Rattle.dl_base.specs.Outside.{File}
+use Rattle.dl_base.specs.Layouts.{usual_layout}
+use Rattle.fdt_tree.specs.Tree.{Tree}
 use Rattle.domain_plan.specs.declared.planned.GuestPlan.{GuestPlan}
 use Rattle.fdt_write.specs.Flattened.{flattened}
+use Rattle.guest_fdt.specs.GuestTree.{guest_tree}
 use Rattle.guest_images.specs.Images.{least_files}
 use Rattle.guest_images.specs.Requests.{tables_needed, left_by_all}
 use Rattle.build_report.specs.Report.{report}
 use Rattle.run_steps.specs.Names.{joined}
-use Rattle.tree_plan.specs.Descriptions.{Description}
+use Rattle.tree_plan.specs.Descriptions.{Description, partial_at}
 use Rattle.tree_plan.specs.TreePlans.{TreePlan}
-use Rattle.build_outputs.specs.Names.{host_name, image_name}
+use Rattle.build_outputs.specs.Names.{host_name, tree_name, image_name}
 
 -- the host's tree, with its reservations and the processor that boots
 abbrev pub host_output : ℕ → Description → File
@@ -20,21 +23,39 @@ host_output boot description = (host_name, flattened description.reserves boot d
 abbrev pub images_of : TreePlan → List (List ℕ)
 images_of plan = least_files plan.guests plan.free
 
--- what is written for a guest that has this image
-abbrev pub guest_output : GuestPlan × List ℕ → File
-guest_output guest = (image_name guest.0.number, guest.1)
+-- the tree of a guest with its partial tree, where that was read: without reservations, and processor 0 boots
+abbrev pub tree_output : GuestPlan → Option Tree → File
+tree_output guest partial = (tree_name guest.number, flattened [] 0 (guest_tree usual_layout guest partial))
 
--- what is written for guests that have these images
-abbrev pub guest_outputs : List GuestPlan → List (List ℕ) → List File
-guest_outputs guests images = map guest_output (zip guests images)
+-- those of guests, the first of which has this number
+abbrev pub tree_outputs : List (Option Tree) → ℕ → List GuestPlan → List File
+tree_outputs partials number [] = []
+tree_outputs partials number (guest ∷ guests) = tree_output guest (partial_at partials number) ∷ tree_outputs partials (number + 1) guests
+
+-- the image of a guest
+abbrev pub image_output : GuestPlan × List ℕ → File
+image_output guest = (image_name guest.0.number, guest.1)
+
+-- those of guests that have these images
+abbrev pub image_outputs : List GuestPlan → List (List ℕ) → List File
+image_outputs guests images = map image_output (zip guests images)
+
+-- files of two kinds, one of each in turn
+abbrev pub in_turn : List File → List File → List File
+in_turn files others = flat_map (λ pair. pair.0 ∷ pair.1 ∷ []) (zip files others)
 
 -- files in a folder, where one is given
 abbrev pub in_folder : Option (List ℕ) → List File → List File
 in_folder folder files = map (λ (file : File). (joined folder file.0, file.1)) files
 
--- all files of a build: the host's tree, and guest by guest what is written for it
+-- all trees of a build: the host's, and those of its guests
+abbrev pub written_trees : ℕ → Description → TreePlan → List File
+written_trees boot description plan = host_output boot description ∷ tree_outputs description.partials 0 plan.guests
+
+-- all files of a build: the host's tree, and guest by guest its tree and its image
 abbrev pub outputs_of : ℕ → Description → TreePlan → List File
-outputs_of boot description plan = host_output boot description ∷ guest_outputs plan.guests (images_of plan)
+outputs_of boot description plan =
+    host_output boot description ∷ in_turn (tree_outputs description.partials 0 plan.guests) (image_outputs plan.guests (images_of plan))
 
 -- each guest, with how many tables its image has
 abbrev pub with_tables : List GuestPlan → List (GuestPlan × ℕ)

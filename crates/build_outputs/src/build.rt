@@ -14,10 +14,12 @@ use crate::lengths::write_tree;
 use crate::names::HOST;
 use crate::refusals::{images_stop, plan_stop};
 use crate::report::make_report;
-use crate::written::make_outputs;
+use crate::trees::write_trees;
+use crate::written::{name_images, put_in_turn};
 use dl_base::{Bytes, List, Loaded};
 use domain_plan::Plan;
 use fdt_tree::{Reserve, Tree};
+use guest_fdt::laws::{plans_are_bounded, trees_list_the_guests};
 use guest_images::build_images;
 use run_steps::{Output, Stop};
 use std::alloc::Global;
@@ -53,11 +55,17 @@ pub fn build_described(
     // Memory ran out, or the first refused item is said with the first reason against it.
     ensures stopped { IfErr result (λ stop. IsOwnDue (AfterItems boot (description_of tree.now reserves.now loads.now partials.now) nothing) stop) }
 {
-    let Plan { guests, mut pool } = match plan_tree(alloc, tree, reserves, loads, partials) {
+    let Plan {
+        guests: planned,
+        mut pool,
+    } = match plan_tree(alloc, tree, reserves, loads, partials) {
         Ok(plan) => plan,
         Err(fault) => return Err(plan_stop(alloc, fault)),
     };
-    let images = match build_images(alloc, guests.as_slice(), &mut pool) {
+    let guests = planned.as_slice();
+    plans_are_bounded();
+    trees_list_the_guests();
+    let images = match build_images(alloc, guests, &mut pool) {
         Ok(images) => images,
         Err(fault) => return Err(images_stop(alloc, fault)),
     };
@@ -65,12 +73,12 @@ pub fn build_described(
         Ok(host) => host,
         Err(stop) => return Err(stop),
     };
-    let report = make_report(
-        alloc,
-        guests.as_slice(),
-        images.as_slice(),
-        pool.free_frames(),
-    )?;
-    let outputs = make_outputs(alloc, folder, host, guests.as_slice(), images)?;
+    let trees = match write_trees(alloc, folder, guests, partials) {
+        Ok(trees) => trees,
+        Err(stop) => return Err(stop),
+    };
+    let report = make_report(alloc, guests, images.as_slice(), pool.free_frames())?;
+    let images = name_images(alloc, folder, guests, images)?;
+    let outputs = put_in_turn(alloc, folder, host, trees, images)?;
     Ok(Built { outputs, report })
 }

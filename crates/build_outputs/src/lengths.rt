@@ -1,11 +1,12 @@
 //! Trees are written, or refused for their length.
-ghost use Rattle.std.specs.Prelude.{◌≡◌, ◌≤◌, ◌<◌, ◌⊎◌, IfErr, IfOk, IsTrue, OnOk, length, not};
+ghost use Rattle.std.specs.Prelude.{◌≡◌, ◌≤◌, IfErr, IfOk, IsTrue, OnOk, length, not};
 ghost use Rattle.std.specs.List.{list_all};
 ghost use Rattle.fdt_read.specs.Reservations.{is_last_pair};
 ghost use Rattle.fdt_write.specs.Flattened.{flattened, length_limit};
 ghost use Rattle.run_steps.specs.Stops.{IsOwnDue};
 ghost use Rattle.build_outputs.specs.Builds.{IsItemRefusal};
-ghost use Rattle.build_outputs.specs.Lengths.{tree_item, too_long as too_long_with};
+ghost use Rattle.build_outputs.specs.Lengths.{tree_item};
+ghost use Rattle.build_outputs.specs.TooLong.{IsLengthStop};
 
 use crate::refusals::refused;
 use dl_base::{Bytes, Item, Part, Why};
@@ -25,7 +26,7 @@ pub(crate) fn write_tree(
     requires { IsTrue (list_all (λ reserve. not (is_last_pair reserve)) reserves.now) }
     ensures written { IfOk result (λ bytes. bytes ≡ flattened reserves.now boot tree.now.tree) }
     ensures fits { OnOk result (length (flattened reserves.now boot tree.now.tree) ≤ length_limit) }
-    ensures stopped { IfErr result (λ stop. (stop ≡ Stop.Memory) ⊎ ((length_limit < length (flattened reserves.now boot tree.now.tree)) × IsOwnDue (IsItemRefusal (tree_item name.now, too_long_with (length (flattened reserves.now boot tree.now.tree)))) stop)) }
+    ensures stopped { IfErr result (λ stop. IsLengthStop (name.now, flattened reserves.now boot tree.now.tree) stop) }
 {
     match write(alloc, tree, reserves, boot) {
         Ok(bytes) => Ok(Bytes::from(bytes)),

@@ -1,4 +1,4 @@
-//! What a build writes: the host's tree, the images of all guests and the report, from what is described; or the first
+//! What a build writes: the trees of the host and of all guests, their images and the report, from what is described; or the first
 //! described item that is refused.
 #![tactic(auto)]
 
@@ -7,6 +7,7 @@ mod lengths;
 mod names;
 mod refusals;
 mod report;
+mod trees;
 mod written;
 
 pub use build::{Built, build_described};

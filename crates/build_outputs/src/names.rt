@@ -2,7 +2,7 @@
 ghost use Rattle.std.specs.Prelude.{◌≡◌, IfOk, string_bytes};
 ghost use Rattle.std.specs.Option.{option_copied};
 ghost use Rattle.run_steps.specs.Names.{joined};
-ghost use Rattle.build_outputs.specs.Names.{guest_name, image_name};
+ghost use Rattle.build_outputs.specs.Names.{guest_name, image_name, tree_name};
 
 use dl_base::Text;
 use run_steps::join;
@@ -21,6 +21,13 @@ pub(crate) fn make_image_name(
 {
     let name = make_guest_name(alloc, number, ".s2")?;
     join(alloc, folder, name.as_str())
+}
+
+/// The name of the tree of the guest with this number, without a folder.
+pub(crate) fn make_tree_name(alloc: Global, number: u64) -> Result<String, AllocError>
+    ensures { IfOk result (λ name. string_bytes name ≡ tree_name number) }
+{
+    make_guest_name(alloc, number, ".dtb")
 }
 
 /// The name of a file of the guest with this number: `domU`, the number and the ending.

@@ -1,14 +1,21 @@
-use Rattle.std.proofs.Common.{◌≡◌, ◌∙◌, ◌∷◌, ap, ap₂, subst, length, ℕ, List}
+use Rattle.std.proofs.Common.{◌≡◌, ◌∙◌, ◌∷◌, sym, ap, ap₂, subst, length, ℕ, List, All}
 use Rattle.std.specs.Option.{option_copied}
 use Rattle.build_report.specs.Report.{report}
-use Rattle.guest_images.specs.Built.{files_in}
+use Rattle.dl_base.specs.Layouts.{usual_layout}
+use Rattle.dl_base.specs.Outside.{File}
+use Rattle.guest_fdt.specs.Bounds.{IsBounded}
+use Rattle.guest_fdt.specs.GuestTree.{guest_tree}
+use Rattle.guest_images.specs.Built.{files_in as images_in}
+use Rattle.run_steps.specs.Names.{joined}
+use Rattle.build_outputs.specs.Made.{files_in}
 use Rattle.guest_images.specs.Walks.{AllWalk, MeetOnlyIn, AreApart}
-use Rattle.tree_plan.specs.Descriptions.{description_of}
+use Rattle.tree_plan.specs.Descriptions.{description_of, partial_at}
 use Rattle.tree_plan.specs.TreePlans.{TreePlan, is_common}
 use Rattle.build_outputs.specs.Names.{host_name}
-use Rattle.build_outputs.specs.Outputs.{images_of, guest_outputs, in_folder, with_tables}
+use Rattle.build_outputs.specs.Outputs.{host_output, tree_outputs, image_outputs, images_of, in_turn, in_folder, with_tables}
 use Rattle.build_outputs.proofs.build.build_described.Goals as goal
-use Rattle.build_outputs.proofs.Refused.{plan_due, images_due, length_due, nothing_refused}
+use Rattle.build_outputs.proofs.Refused.{plan_due, images_due, length_due, trees_due, nothing_refused}
+use Rattle.build_outputs.proofs.Zipped.{turned_in}
 
 pub returns-in-Err-clause-stopped : goal.returns-in-Err-clause-stopped
 returns-in-Err-clause-stopped c =
@@ -18,26 +25,55 @@ pub returns-in-Err-build_images-clause-stopped : goal.returns-in-Err-build_image
 returns-in-Err-build_images-clause-stopped c =
     let description = description_of c.args.tree.now c.args.reserves.now c.args.loads.now c.args.partials.now in
     let plan : TreePlan = record { guests = c.in-Ok.plan.guests; free = c.in-Ok.plan.pool.free } in
-    images_due c.args.boot description plan c.in-Ok.ensures.planned c.in-Err-build_images.fault c.images_stop.result (rw c.as_slice.ensures at c.in-Err-build_images.ensures.refused) c.images_stop.ensures.said c.images_stop.ensures.memory
+    images_due c.args.boot description plan c.in-Ok.ensures.planned c.in-Err-build_images.fault c.images_stop.result (rw c.as_slice-guests.ensures at c.in-Err-build_images.ensures.refused) c.images_stop.ensures.said c.images_stop.ensures.memory
 
 pub returns-in-Err-write_tree-clause-stopped : goal.returns-in-Err-write_tree-clause-stopped
 returns-in-Err-write_tree-clause-stopped c =
     let description = description_of c.args.tree.now c.args.reserves.now c.args.loads.now c.args.partials.now in
     let plan : TreePlan = record { guests = c.in-Ok.plan.guests; free = c.in-Ok.plan.pool.free } in
-    length_due c.args.boot description plan c.in-Ok.ensures.planned (rw c.as_slice.ensures at c.in-Ok-build_images.ensures.met) c.in-Err-write_tree.stop c.in-Err-write_tree.ensures.stopped
+    length_due c.args.boot description plan c.in-Ok.ensures.planned (rw c.as_slice-guests.ensures at c.in-Ok-build_images.ensures.met) c.in-Err-write_tree.stop c.in-Err-write_tree.ensures.stopped
+
+-- each guest has what its tree can hold
+pub write_trees-requires : goal.write_trees-requires
+write_trees-requires c =
+    let description = description_of c.args.tree.now c.args.reserves.now c.args.loads.now c.args.partials.now in
+    let plan : TreePlan = record { guests = c.in-Ok.plan.guests; free = c.in-Ok.plan.pool.free } in
+    subst (All IsBounded) (sym c.as_slice-guests.ensures) (c.plans_are_bounded.ensures description plan c.in-Ok.ensures.planned)
+
+pub returns-in-Err-write_trees-clause-stopped : goal.returns-in-Err-write_trees-clause-stopped
+returns-in-Err-write_trees-clause-stopped c =
+    let description = description_of c.args.tree.now c.args.reserves.now c.args.loads.now c.args.partials.now in
+    let plan : TreePlan = record { guests = c.in-Ok.plan.guests; free = c.in-Ok.plan.pool.free } in
+    trees_due c.args.boot description plan c.in-Ok.ensures.planned (rw c.as_slice-guests.ensures at c.in-Ok-build_images.ensures.met) c.in-Ok-write_tree.ensures.fits c.in-Err-write_trees.stop
+    (rw c.as_slice-guests.ensures at c.in-Err-write_trees.ensures.stopped)
 
 pub returns-clause-built : goal.returns-clause-built
 returns-clause-built c =
     let description = description_of c.args.tree.now c.args.reserves.now c.args.loads.now c.args.partials.now in
     let plan : TreePlan = record { guests = c.in-Ok.plan.guests; free = c.in-Ok.plan.pool.free } in
-    let files : files_in c.in-Ok-build_images.images ≡ images_of plan = (rw c.as_slice.ensures at c.in-Ok-build_images.ensures.files) in
+    let folder = option_copied c.args.folder in
+    let trees = tree_outputs description.partials 0 plan.guests in
+    let files : images_in c.in-Ok-build_images.images ≡ images_of plan = (rw c.as_slice-guests.ensures at c.in-Ok-build_images.ensures.files) in
+    let trees_are : files_in c.in-Ok-write_trees.trees ≡ in_folder folder trees = (rw c.as_slice-guests.ensures at c.in-Ok-write_trees.ensures.written) in
+    let images_are : files_in c.in_ok-images.images ≡ in_folder folder (image_outputs plan.guests (images_of plan)) =
+    (rw c.as_slice-guests.ensures at c.in_ok-images.ensures) ∙ ap (λ (images : List (List ℕ)). in_folder folder (image_outputs plan.guests images)) files in
     record {
       plan = plan;
-      planned = nothing_refused c.args.boot description plan c.in-Ok.ensures.planned (rw c.as_slice.ensures at c.in-Ok-build_images.ensures.met) c.in-Ok-write_tree.ensures.fits;
-      written = (rw c.as_slice-4.ensures at c.in_ok-outputs.ensures)
-          ∙ ap₂ (λ (host : List ℕ) (images : List (List ℕ)). in_folder (option_copied c.args.folder) ((host_name, host) ∷ guest_outputs plan.guests images)) c.in-Ok-write_tree.ensures.written files;
-      reported = (rw c.as_slice-2.ensures at c.in_ok-report.ensures) ∙ ap (report (with_tables plan.guests)) (c.free_frames.ensures.count ∙ ap length (rw c.as_slice.ensures at c.in-Ok-build_images.ensures.left));
-      walks = subst (AllWalk plan.guests) files (rw c.as_slice.ensures at c.in-Ok-build_images.ensures.walk);
-      meet = subst (MeetOnlyIn (is_common description)) files ((rw c.as_slice.ensures at c.in-Ok-build_images.ensures.meet) (is_common description) c.in-Ok.ensures.apart);
-      apart = subst AreApart files ((rw c.as_slice.ensures at c.in-Ok-build_images.ensures.apart) (is_common description) c.in-Ok.ensures.apart);
+      planned = nothing_refused c.args.boot description plan c.in-Ok.ensures.planned (rw c.as_slice-guests.ensures at c.in-Ok-build_images.ensures.met) c.in-Ok-write_tree.ensures.fits
+          (rw c.as_slice-guests.ensures at c.in-Ok-write_trees.ensures.fit);
+      written = c.in_ok-outputs.ensures
+          ∙ ap (λ (host : List ℕ). (joined folder host_name, host) ∷ in_turn (files_in c.in-Ok-write_trees.trees) (files_in c.in_ok-images.images)) c.in-Ok-write_tree.ensures.written
+          ∙ ap (λ (more : List File). (joined folder host_name, (host_output c.args.boot description).1) ∷ more) (ap₂ in_turn trees_are images_are ∙ turned_in folder trees (image_outputs plan.guests (images_of plan)));
+      reported = (rw c.as_slice-guests.ensures at c.in_ok-report.ensures) ∙ ap (report (with_tables plan.guests)) (c.free_frames.ensures.count ∙ ap length (rw c.as_slice-guests.ensures at c.in-Ok-build_images.ensures.left));
+      walks = subst (AllWalk plan.guests) files (rw c.as_slice-guests.ensures at c.in-Ok-build_images.ensures.walk);
+      meet = subst (MeetOnlyIn (is_common description)) files ((rw c.as_slice-guests.ensures at c.in-Ok-build_images.ensures.meet) (is_common description) c.in-Ok.ensures.apart);
+      apart = subst AreApart files ((rw c.as_slice-guests.ensures at c.in-Ok-build_images.ensures.apart) (is_common description) c.in-Ok.ensures.apart);
+      lists = λ number guest at.
+          let listed = c.trees_list_the_guests.ensures description plan c.in-Ok.ensures.planned number guest at in
+          record {
+            root = guest_tree usual_layout guest (partial_at description.partials number);
+            spelled = (rw c.as_slice-guests.ensures at c.in-Ok-write_trees.ensures.spelled) number guest at;
+            lists = listed.lists;
+            pages = listed.pages;
+          };
     }

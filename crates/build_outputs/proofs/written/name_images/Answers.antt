@@ -1,15 +1,14 @@
-use Rattle.std.proofs.Common.{◌≡◌, ◌∙◌, ap, map, ◌∷◌}
+use Rattle.std.proofs.Common.{◌≡◌, ◌∙◌, ap, map}
 use Rattle.std.specs.List.{zip}
 use Rattle.std.specs.Option.{option_copied}
 use Rattle.std.proofs.lemmas.Iterator.{YieldsList-from_slice, YieldsList-from_zip}
 use Rattle.std.proofs.lemmas.Iterator.Consumers.{YieldsList-at, YieldsList-end}
 use Rattle.std.proofs.lemmas.Iterator.Adapters.{YieldsList-from_vec}
-use Rattle.build_outputs.specs.Names.{host_name}
 use Rattle.build_outputs.specs.Outputs.{in_folder}
-use Rattle.build_outputs.proofs.Zipped.{seen, all_outputs}
-use Rattle.build_outputs.proofs.written.make_outputs.Goals as goal
+use Rattle.build_outputs.proofs.Zipped.{seen, all_images}
+use Rattle.build_outputs.proofs.written.name_images.Goals as goal
 
--- all guests have their files
+-- all guests have their images
 pub returns : goal.returns
 returns c =
     let zipped = YieldsList-from_zip {s = c.zip-guest-items.result} (YieldsList-at c.zip-guest-items.ensures.first (YieldsList-from_slice c.args.guests.now c.iter.ensures.rest))
@@ -17,4 +16,4 @@ returns c =
     let road = YieldsList-at c.into_iter-guest-iterator.ensures.into_iter_gives zipped in
     let end = YieldsList-end road c.loop-guest.yielded c.loop-guest.guest-iterator c.loop-guest.yielded_by c.next.result c.next.new.self c.in-None.is c.next.ensures.steps in
     let all : map seen c.loop-guest.yielded ≡ zip c.args.guests.now c.args.images = end.0 ∙ ap (zip c.args.guests.now) c.into_vec.ensures in
-    c.loop-guest.invariant ∙ ap (λ more. in_folder (option_copied c.args.folder) ((host_name, c.args.host) ∷ more)) (all_outputs c.loop-guest.yielded c.args.guests.now c.args.images all)
+    c.loop-guest.invariant ∙ ap (in_folder (option_copied c.args.folder)) (all_images c.loop-guest.yielded c.args.guests.now c.args.images all)
