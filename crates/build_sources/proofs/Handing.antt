@@ -1,6 +1,10 @@
 -- What a step hands on where it refuses nothing is what it found.
 use Rattle.std.proofs.Common.{◌≡◌, refl, subst, [], inl, inr}
+use Rattle.std.specs.Prelude.{Result, Ok, Err, IfOk, IfErr}
 use Rattle.run_steps.specs.Endings.{Outcome}
+use Rattle.run_steps.specs.Stops.{Counts, IsDue}
+use Rattle.run_steps.specs.declared.stop.Stop.{Stop}
+use Rattle.run_steps.proofs.Due.{due_here}
 use Rattle.run_steps.proofs.Step.{Next, IsStep, said_as, and_then, hand_on, hand_on_step}
 use Rattle.build_sources.specs.Handed.{is, unrefused, HandsOn}
 
@@ -31,3 +35,14 @@ module _ {A B : Type 0} (first : Next A → Outcome → Type 0) (second : A → 
 -- a step, and what is made of what it hands on
 pub made_step : {A B : Type 0} (first : Next A → Outcome → Type 0) (make : A → B) → IsStep (HandsOn first) first → IsStep (HandsOn (λ next outcome. first (λ x. next (make x)) outcome)) (λ next outcome. first (λ x. next (make x)) outcome)
 made_step first make one = both_step first (λ x. hand_on (make x)) one (λ x. handed_step (λ y. y ≡ make x) (hand_on (make x)) (hand_on_step (make x)))
+
+-- what a call answers, said in other words
+pub ok_as : {A E : Type 0} (One Other : A → Type 0) → ((x : A) → One x → Other x) → (result : Result A E) → IfOk result One → IfOk result Other
+ok_as One Other implied (Ok value) given = implied value given
+ok_as One Other implied (Err fault) given = tt
+
+-- and why it stops
+pub err_as : {A : Type 0} (job other : Outcome → Type 0) → ((outcome : Outcome) → job outcome → other outcome) → (old new : Counts) → (result : Result A Stop)
+    → IfErr result (λ stop. IsDue job old new stop) → IfErr result (λ stop. IsDue other old new stop)
+err_as job other implied old new (Ok value) due = tt
+err_as job other implied old new (Err stop) due = due_here job other implied old new stop due
