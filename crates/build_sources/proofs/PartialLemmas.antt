@@ -7,7 +7,6 @@ use Rattle.dl_base.specs.Outside.{File}
 use Rattle.dl_base.specs.declared.loaded.Loaded.{Loaded}
 use Rattle.fdt_tree.specs.Tree.{Tree}
 use Rattle.fdt_tree.specs.Document.{Document}
-use Rattle.fdt_nodes.specs.Nodes.{Node}
 use Rattle.fdt_nodes.specs.Held.{node_of}
 use Rattle.domain_bindings.specs.Domains.{guest_nodes, partial_of}
 use Rattle.domain_bindings.specs.Results.{AreDomains, domains_at}

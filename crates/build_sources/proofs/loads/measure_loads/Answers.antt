@@ -1,4 +1,4 @@
-use Rattle.std.proofs.Common.{◌∙◌, ◌≡◌, take, List, [], ◌∷◌, ap, subst}
+use Rattle.std.proofs.Common.{◌∙◌}
 use Rattle.std.specs.Option.{option_copied}
 use Rattle.script_run.specs.Effect.{tree_load_of}
 use Rattle.run_steps.specs.Steps.{AfterEach, nothing}

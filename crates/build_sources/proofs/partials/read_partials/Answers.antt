@@ -1,9 +1,9 @@
 use Rattle.std.specs.Option.{option_copied}
-use Rattle.tree_plan.specs.Descriptions.{description_of, trees_in}
+use Rattle.tree_plan.specs.Descriptions.{trees_in}
 use Rattle.run_steps.specs.Steps.{AfterEach, nothing}
 use Rattle.build_sources.specs.Handed.{HandsOn}
 use Rattle.build_sources.specs.Meant.{meant_stand}
-use Rattle.build_sources.specs.Partials.{AfterPartial, AfterPartials, Describes, partial_addresses}
+use Rattle.build_sources.specs.Partials.{AfterPartial, AfterPartials, partial_addresses}
 use Rattle.build_sources.proofs.Handing.{ok_as, err_as}
 use Rattle.build_sources.proofs.PartialLemmas.{described}
 use Rattle.build_sources.proofs.partials.read_partials.Goals as goal

@@ -1,6 +1,6 @@
 use Rattle.std.proofs.Common.{rules, ◌≡◌, Err}
 use Rattle.std.specs.Option.{option_copied}
-use Rattle.build_sources.specs.Configs.{AfterMade, IsMade}
+use Rattle.build_sources.specs.Configs.{AfterMade}
 use Rattle.build_sources.specs.Meant.{meant_made, meant_stand}
 use Rattle.build_sources.specs.Replays.{AfterMadeRun}
 use Rattle.build_sources.proofs.ConfigSteps.{made_step}
