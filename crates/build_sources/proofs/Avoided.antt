@@ -25,10 +25,10 @@ use Rattle.dom0less_words.specs.Words.{Word, Source, Config, Replay, Ready}
 use Rattle.run_steps.specs.Endings.{Outcome, Refuses}
 use Rattle.run_steps.specs.Messages.{file_message}
 use Rattle.run_steps.specs.Names.{joined}
-use Rattle.run_steps.specs.Steps.{IsRefusal, IsReading, IsReadRefusal, IsSize, OnResult, OnOption, AreSizes, AfterReading, AfterSize, AfterSizes, AfterEach, nothing}
-use Rattle.run_steps.specs.Trees.{tree_limit, FlatTree, IsFlattened, AfterTree, AfterTreeFile}
-use Rattle.run_steps.proofs.Step.{Next, IsStep, Avoids, both_avoid, each_avoids, hand_on_avoids}
-use Rattle.run_steps.proofs.ReadingSteps.{reading_step, size_step, sizes_step}
+use Rattle.run_steps.specs.Steps.{IsRefusal, IsReading, IsReadRefusal, IsSize, OnResult, OnOption, AfterReading, AfterSize, AfterSizes, nothing}
+use Rattle.run_steps.specs.Trees.{tree_limit, FlatTree, AfterTree, AfterTreeFile}
+use Rattle.run_steps.proofs.Step.{Next, Avoids, both_avoid, each_avoids, hand_on_avoids}
+use Rattle.run_steps.proofs.ReadingSteps.{reading_step, size_step}
 use Rattle.build_sources.specs.Handed.{HandsOn}
 use Rattle.build_sources.specs.Configs.{config_limit, IsConfigRefusal, IsPlaceRefusal, IsMakeRefusal, AfterConfig, AfterFileSizes, AfterScript, AfterHost, AfterMade, Made, IsMade, IsConfigFile, facts_of, host_file, other_files}
 use Rattle.build_sources.specs.Scripts.{script_name}
@@ -36,7 +36,6 @@ use Rattle.build_sources.specs.Sources.{Stand, script_limit, IsLineRefusal, Afte
 use Rattle.build_sources.specs.Replays.{AfterMadeRun, AfterSized, AfterTreeRead, AfterScriptRead}
 use Rattle.build_sources.specs.Partials.{load_at, AfterLoaded, AfterPartial, AfterPartials, partial_addresses}
 use Rattle.build_sources.proofs.ConfigSteps.{AreFileSizes, config_step, file_sizes_step, made_step}
-use Rattle.build_sources.proofs.Handing.{handed_step}
 use Rattle.build_sources.proofs.SourceSteps.{tree_step, script_file_step, load_size_step, load_sizes_step, partial_step}
 
 -- the status is none of those that reading files refuses with

@@ -1,6 +1,6 @@
 -- Reading a configuration, and what is made of it, are steps.
 use Rattle.std.proofs.Common.{◌≡◌, ◌∙◌, ◌+◌, ◌-◌, sym, ap, subst, refl, arith, ℕ, List, [], ◌∷◌, ◌++◌, length, take, map}
-use Rattle.std.specs.Prelude.{Option, Some, Ok, Err}
+use Rattle.std.specs.Prelude.{Option, Some, Ok}
 use Rattle.std.proofs.Math.Seq.{take-append_seam}
 use Rattle.std.proofs.lemmas.List.{length-append, length-map}
 use Rattle.dl_base.specs.Outside.{File}

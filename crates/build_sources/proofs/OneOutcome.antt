@@ -1,5 +1,5 @@
 -- Over files that tell what they hold, reading what a build stands on and the guests' partial trees calls for one outcome, where what follows does.
-use Rattle.std.proofs.Common.{◌≡◌, ℕ, List, [], ◌∷◌, ◌++◌, map, Some, None}
+use Rattle.std.proofs.Common.{ℕ, List, [], ◌∷◌, ◌++◌, map, Some, None}
 use Rattle.std.specs.Prelude.{Option}
 use Rattle.dl_base.specs.Outside.{File}
 use Rattle.dl_base.specs.declared.loaded.Loaded.{Loaded}
@@ -21,11 +21,11 @@ use Rattle.run_steps.specs.Laws.{IsDetermined}
 use Rattle.run_steps.specs.Names.{joined}
 use Rattle.run_steps.specs.Steps.{OnResult, AfterReading, AfterEach}
 use Rattle.run_steps.specs.Trees.{FlatTree, AfterTreeFile}
-use Rattle.run_steps.proofs.Step.{Next, hand_on}
+use Rattle.run_steps.proofs.Step.{hand_on}
 use Rattle.run_steps.proofs.OneOutcome.{Decides, both_decide, hand_on_decides, refusals_agree, never_agrees, on_result_decides, each_decides, reading_decides, size_decides, sizes_decide, tree_file_decides}
 use Rattle.build_sources.specs.Configs.{config_limit, IsConfigRefusal, IsPlaceRefusal, IsMakeRefusal, AfterConfig, AfterScript, AfterHost, AfterMade, Made, facts_of, host_file, other_files}
 use Rattle.build_sources.specs.Scripts.{script_name}
-use Rattle.build_sources.specs.Sources.{Stand, script_limit, IsLineRefusal, IsStepRefusal, AfterScriptFile, AfterRun, loads_named, known_size, AfterKnownSize, AfterLoadSize, AfterLoadSizes, config_stand, replay_stand, ready_stand, AfterConfigured, AfterReplay, AfterReady, AfterSource}
+use Rattle.build_sources.specs.Sources.{Stand, script_limit, IsLineRefusal, IsStepRefusal, AfterScriptFile, AfterRun, loads_named, known_size, AfterKnownSize, AfterLoadSize, AfterLoadSizes, config_stand, replay_stand, ready_stand, AfterSource}
 use Rattle.build_sources.specs.Replays.{AfterMadeRun, AfterSized, AfterTreeRead, AfterScriptRead}
 use Rattle.build_sources.specs.Partials.{load_at, AfterLoaded, AfterPartial, AfterPartials, described_by, partial_addresses}
 

@@ -1,5 +1,5 @@
 -- Reading what a build stands on, and the guests' partial trees, are steps.
-use Rattle.std.proofs.Common.{◌≡◌, ℕ, List, map}
+use Rattle.std.proofs.Common.{◌≡◌, ℕ, List}
 use Rattle.std.specs.Prelude.{Option, Some, None, Ok}
 use Rattle.dl_base.specs.Outside.{File}
 use Rattle.dl_base.specs.declared.loaded.Loaded.{Loaded}
@@ -9,11 +9,10 @@ use Rattle.ib_script.specs.declared.make.LoadKind.{LoadKind}
 use Rattle.script_run.specs.Effect.{tree_load_of, tree_effect}
 use Rattle.script_run.specs.Reading.{commands_of}
 use Rattle.dom0less_words.specs.Words.{Word, Source, Config, Replay, Ready}
-use Rattle.run_steps.specs.Endings.{Outcome}
 use Rattle.run_steps.specs.Names.{joined}
 use Rattle.run_steps.specs.Steps.{IsReading, OnResult, AfterReading, AfterEach}
 use Rattle.run_steps.specs.Trees.{FlatTree, AfterTreeFile, IsTreeFile}
-use Rattle.run_steps.proofs.Step.{Next, IsStep, and_then, hand_on, hand_on_step, on_result_step, each_step}
+use Rattle.run_steps.proofs.Step.{IsStep, and_then, hand_on, hand_on_step, on_result_step, each_step}
 use Rattle.run_steps.proofs.ReadingSteps.{reading_step, size_step, tree_file_step}
 use Rattle.build_sources.specs.Handed.{HandsOn}
 use Rattle.build_sources.specs.Configs.{Made, AfterMade, IsMade}

@@ -1,5 +1,5 @@
 -- What a build stands on, from where it begins: a configuration, a script with a tree, or a ready tree.
-use Rattle.std.specs.Prelude.{◌≡◌, ℕ, List, [], ◌∷◌, Option, Some, None, nat_eq, if◌then◌else◌}
+use Rattle.std.specs.Prelude.{ℕ, List, [], ◌∷◌, Option, Some, None, nat_eq, if◌then◌else◌}
 use Rattle.std.specs.List.{flat_map, enumerate_from}
 use Rattle.std.specs.Option.{option_eq}
 use Rattle.dl_base.specs.Outside.{File}

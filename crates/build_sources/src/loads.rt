@@ -1,5 +1,5 @@
 // The sizes of the files that a script loads.
-ghost use Rattle.std.specs.Prelude.{◌≡◌, IfOk, IfErr, length, option_to_list};
+ghost use Rattle.std.specs.Prelude.{◌≡◌, ◌++◌, OnOk, IfOk, IfErr, length, option_to_list};
 ghost use Rattle.std.specs.Option.{option_copied};
 ghost use Rattle.script_run.specs.Effect.{load_count};
 ghost use Rattle.run_steps.specs.Names.{joined};
@@ -12,7 +12,7 @@ use dl_base::{Files, List};
 use ib_script::Command;
 use run_steps::{Stop, join, measure};
 use script_run::tree_load;
-use std::alloc::Global;
+use std::alloc::{AllocError, Global};
 
 /// The sizes of the files of all loads of a script in their order, in bytes, where the tree's file has so many bytes: that
 /// file is not measured.
@@ -34,12 +34,22 @@ pub(crate) fn measure_loads<F: Files>(
     let mut sizes = Vec::new(alloc);
     for index in 0..script.len() {
         match measure_load(alloc, folder, tree, bytes, index, &script[index], files) {
-            Ok(Some(size)) => sizes.push(size)?,
-            Ok(None) => {}
+            Ok(size) => push_some(&mut sizes, size)?,
             Err(stop) => return Err(stop),
         }
     }
     Ok(sizes)
+}
+
+/// Adds a size, where there is one.
+fn push_some(sizes: &mut Vec<u64>, size: Option<u64>) -> Result<(), AllocError>
+    ensures { OnOk result (sizes.new.items ≡ sizes.old.items ++ option_to_list size) }
+{
+    match size {
+        Some(size) => sizes.push(size)?,
+        None => {}
+    }
+    Ok(())
 }
 
 /// The size of the file that the command with this index loads, if it loads one.

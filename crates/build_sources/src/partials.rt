@@ -42,7 +42,8 @@ fn find_addresses(alloc: Global, tree: &Tree) -> Result<Vec<Option<u64>>, AllocE
 {
     let domains = read_domains(alloc, tree)?;
     let mut addresses = Vec::new(alloc);
-    for domain in first_of(domains.as_slice()) {
+    let first = first_of(domains.as_slice());
+    for domain in first {
         addresses.push(domain.partial)?;
     }
     Ok(addresses)

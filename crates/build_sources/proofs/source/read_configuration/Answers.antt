@@ -1,0 +1,31 @@
+use Rattle.std.proofs.Common.{rules, ◌≡◌, Err}
+use Rattle.std.specs.Option.{option_copied}
+use Rattle.build_sources.specs.Configs.{AfterMade}
+use Rattle.build_sources.specs.Meant.{meant_made, meant_stand}
+use Rattle.build_sources.specs.Replays.{AfterMadeRun}
+use Rattle.build_sources.proofs.ConfigSteps.{made_step}
+use Rattle.build_sources.proofs.Handing.{handed, handed_step, first_stops, then_hands, then_stops_anyway}
+use Rattle.build_sources.proofs.source.read_configuration.Goals as goal
+
+pub returns-in_err-made-clause-stopped : goal.returns-in_err-made-clause-stopped
+returns-in_err-made-clause-stopped g c =
+    let told = g.F.Files.held c.args.files.now in
+    let folder = option_copied c.args.folder in
+    let stopped : c.from_residual.result ≡ Err (c.in_err-made.field-0.0) = search rules in
+    rw stopped
+    (first_stops (AfterMade told c.args.config.now folder c.args.kind) (AfterMadeRun (option_copied c.args.outputs)) (handed_step _ _ (made_step told c.args.config.now folder c.args.kind))
+    _ _ (c.in_err-made.field-0.0) c.in_err-made.ensures.stopped)
+
+pub returns-clause-stands : goal.returns-clause-stands
+returns-clause-stands g c =
+    let told = g.F.Files.held c.args.files.now in
+    let folder = option_copied c.args.folder in
+    then_hands (AfterMade told c.args.config.now folder c.args.kind) (AfterMadeRun (option_copied c.args.outputs)) (handed_step _ _ (made_step told c.args.config.now folder c.args.kind))
+    (meant_made c.in_ok-made.made) (handed _ _ (made_step told c.args.config.now folder c.args.kind) (meant_made c.in_ok-made.made) c.in_ok-made.ensures.made) meant_stand c.run_made.result c.run_made.ensures.stands
+
+pub returns-clause-stopped : goal.returns-clause-stopped
+returns-clause-stopped g c =
+    let told = g.F.Files.held c.args.files.now in
+    let folder = option_copied c.args.folder in
+    then_stops_anyway (AfterMade told c.args.config.now folder c.args.kind) (AfterMadeRun (option_copied c.args.outputs)) (handed_step _ _ (made_step told c.args.config.now folder c.args.kind))
+    (meant_made c.in_ok-made.made) (handed _ _ (made_step told c.args.config.now folder c.args.kind) (meant_made c.in_ok-made.made) c.in_ok-made.ensures.made) _ _ c.run_made.result c.run_made.ensures.stopped
