@@ -1,5 +1,5 @@
 -- The guests one after the other.
-use Rattle.std.proofs.Common.{◌≡◌, ℕ, zero, suc, ◌+◌, ◌<◌, ◌≤◌, List, [], ◌∷◌, ◌++◌, length, drop, refl, sym, ◌∙◌, ap, arith, Some, None, slice_get, append_assoc, append-nil, add-one}
+use Rattle.std.proofs.Common.{◌≡◌, ℕ, zero, suc, ◌+◌, ◌<◌, ◌≤◌, List, [], ◌∷◌, ◌++◌, length, drop, refl, sym, ◌∙◌, ap, arith, Some, slice_get, append_assoc, append-nil, add-one}
 use Rattle.std.specs.Prelude.{option_map}
 use Rattle.ib_config.specs.declared.guests.Guest.{Guest}
 use Rattle.ib_config_lint.specs.Warnings.{guest_warnings, guests_warnings}

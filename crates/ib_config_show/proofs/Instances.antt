@@ -6,7 +6,7 @@ use Rattle.ib_config.specs.Line.{is_blank, is_letter, is_digit, is_name_byte}
 use Rattle.ib_config.specs.declared.fault.ConfigFault.TheVariants.{NotPlain, Unsupported}
 use Rattle.ib_config_show.specs.Answers.{fault_line}
 
--- a name without effect stands behind its line
+-- a name that is not supported stands behind the number of its line
 named : fault_line (codes "XEN=\"xen\"\n\n# heap\r\n\n  STATIC_HEAP=\"0x1000 0x2000\"\n") (Unsupported 5) ≡ codes "Unsupported at 5 STATIC_HEAP" ++ 10 ∷ []
 unfolding digits is_blank is_letter is_digit is_name_byte
 named = refl

@@ -1,5 +1,5 @@
 -- What is written about a file.
-use Rattle.std.specs.Prelude.{◌≡◌, ℕ, List, [], ◌∷◌, ◌++◌, Option, Result, Ok}
+use Rattle.std.specs.Prelude.{◌≡◌, ℕ, Bool, if◌then◌else◌, List, [], ◌∷◌, ◌++◌, Option, Result, Ok}
 use Rattle.std.specs.Io.KnownBytes.{Appends}
 use Rattle.ib_config.specs.FaultTexts.{named_fault_text}
 use Rattle.ib_config.specs.Settings.{IsFault}
@@ -7,7 +7,11 @@ use Rattle.ib_config.specs.declared.fault.ConfigFault.{ConfigFault}
 use Rattle.ib_config.specs.declared.settings.Settings.{Settings}
 use Rattle.ib_config_show.specs.Shown.{config_lines}
 
--- a fault of a file on a line of its own; a name without effect is named
+-- the status that the program ends with: 0 where the file has no fault
+abbrev pub status_of : Bool → ℕ
+status_of accepted = if accepted then 0 else 1
+
+-- a fault of a file on a line of its own; a name that is not supported stands behind its line's number
 abbrev pub fault_line : List ℕ → ConfigFault → List ℕ
 fault_line bytes fault = named_fault_text bytes fault ++ 10 ∷ []
 

@@ -6,7 +6,7 @@ use dl_base::Bytes;
 use ib_config::ConfigFault;
 use std::alloc::{AllocError, Global};
 
-/// The line of a fault of a file: its text, for a name without effect that name, and a line feed.
+/// The line of a fault of a file: its text, that of a name that is not supported with the name, and a line feed.
 pub(crate) fn show_fault(
     alloc: Global,
     bytes: &[u8],

@@ -9,6 +9,10 @@ mod line;
 mod settings;
 mod word;
 
+ghost use Rattle.std.specs.Prelude.{◌≡◌};
+ghost use Rattle.std.specs.Process.{exit_status};
+ghost use Rattle.ib_config_show.specs.Answers.{status_of};
+
 use crate::answer::answer;
 use bounded_input::read_within;
 use std::io;
@@ -17,7 +21,10 @@ use std::process::ExitCode;
 /// The longest configuration, in bytes.
 const LIMIT: u64 = 65_536;
 
-fn exit_code(accepted: bool) -> ExitCode {
+/// The status of the program: 0 where the file has no fault.
+fn exit_code(accepted: bool) -> ExitCode
+    ensures { exit_status result ≡ status_of accepted }
+{
     if accepted {
         ExitCode::SUCCESS
     } else {

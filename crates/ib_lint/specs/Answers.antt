@@ -12,6 +12,12 @@ use Rattle.ib_config_lint.specs.declared.warning.Warning.{Warning}
 use Rattle.ib_lint.specs.declared.answer.Verdict.{Verdict}
 use Rattle.ib_lint.specs.declared.answer.Verdict.TheVariants.{Clean, Warned, Refused}
 
+-- the status that the program ends with: 0 where nothing is to be mended
+abbrev pub status_of : Verdict → ℕ
+status_of Clean = 0
+status_of Warned = 1
+status_of Refused = 1
+
 -- warnings, each on a line of its own
 abbrev pub lines : List Warning → List ℕ
 lines found = flat_map warning_line found
@@ -20,7 +26,7 @@ lines found = flat_map warning_line found
 abbrev pub is_clean : List Warning → Bool
 is_clean found = list_all is_remark found
 
--- a fault of a file on a line of its own; a name without effect is named
+-- a fault of a file on a line of its own; a name that is not supported stands behind its line's number
 abbrev pub fault_line : List ℕ → ConfigFault → List ℕ
 fault_line bytes fault = named_fault_text bytes fault ++ 10 ∷ []
 

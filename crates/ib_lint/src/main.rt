@@ -4,6 +4,10 @@
 
 mod answer;
 
+ghost use Rattle.std.specs.Prelude.{◌≡◌};
+ghost use Rattle.std.specs.Process.{exit_status};
+ghost use Rattle.ib_lint.specs.Answers.{status_of};
+
 use crate::answer::{Verdict, answer};
 use bounded_input::read_within;
 use std::io;
@@ -12,7 +16,10 @@ use std::process::ExitCode;
 /// The longest configuration, in bytes.
 const LIMIT: u64 = 65_536;
 
-fn exit_code(verdict: Verdict) -> ExitCode {
+/// The status of the program: 0 where nothing is to be mended.
+fn exit_code(verdict: Verdict) -> ExitCode
+    ensures { exit_status result ≡ status_of verdict }
+{
     match verdict {
         Verdict::Clean => ExitCode::SUCCESS,
         Verdict::Warned | Verdict::Refused => ExitCode::FAILURE,
