@@ -1,0 +1,2 @@
+mod OneOutcome
+mod Exact

@@ -1,0 +1,59 @@
+-- What status 0 promises of what was written, and what a refusal names.
+use Rattle.std.specs.Prelude.{◌≡◌, ◌++◌, ℕ, List, Option, Err}
+use Rattle.dl_base.specs.Outside.{File}
+use Rattle.domain_plan.specs.Refusals.{Refusal}
+use Rattle.fdt_listing.specs.Listing.{listing}
+use Rattle.dl_base.specs.declared.status.Status.TheVariants as statuses
+use Rattle.run_steps.specs.Endings.{Refuses}
+use Rattle.run_steps.specs.Steps.{nothing}
+use Rattle.build_sources.specs.Configs.{AfterMade}
+use Rattle.run_steps.specs.Messages.{refused_message}
+use Rattle.run_steps.specs.Trees.{FlatTree, IsTreeFile}
+use Rattle.tree_plan.specs.Descriptions.{Description}
+use Rattle.dom0less_words.specs.Words.{Word, Source, Config, Asked, Build}
+use Rattle.build_sources.specs.Sources.{Stand, StandsOn, folder_of}
+use Rattle.build_sources.specs.Partials.{Describes}
+use Rattle.build_outputs.specs.Builds.{built_of}
+use Rattle.build_outputs.specs.Isolation.{IsBuildOf}
+
+-- Nothing of what is described is refused. These outputs are the files of its guests behind those that come before, and this report the lines about them behind those that come before.
+pub record IsStandBuild (folder : Option Word) (stand : Stand) (description : Description) (outputs : List File) (report : List ℕ) : Type 0 where
+  pub files : List File
+  pub lines : List ℕ
+  pub written : outputs ≡ stand.before ++ files
+  pub reported : report ≡ stand.lines ++ lines
+  pub built : IsBuildOf stand.boot description folder files lines
+
+-- The files are read and describe guests; these outputs and this report are those of their build.
+pub record IsDescribedBuild (told : Option (List File)) (source : Source) (folder : Option Word) (outputs : List File) (report : List ℕ) : Type 0 where
+  pub stand : Stand
+  pub stands : StandsOn told source folder stand
+  pub description : Description
+  pub described : Describes told (folder_of source) stand description
+  pub built : IsStandBuild folder stand description outputs report
+
+-- The files are read and describe guests; the message names the first described item that is refused, with the first reason against it.
+pub record NamesFirstRefused (told : Option (List File)) (source : Source) (folder : Option Word) (message : List ℕ) : Type 0 where
+  pub stand : Stand
+  pub stands : StandsOn told source folder stand
+  pub description : Description
+  pub described : Describes told (folder_of source) stand description
+  pub refusal : Refusal
+  pub first : built_of stand.boot description ≡ Err refusal
+  pub named : message ≡ refused_message refusal.0 refusal.1
+
+-- the bytes are the listing of the tree of that name
+pub record IsListing (told : Option (List File)) (name : List ℕ) (text : List ℕ) : Type 0 where
+  pub tree : FlatTree
+  pub read : IsTreeFile told name tree
+  pub listed : text ≡ listing tree.reserves tree.root
+
+-- before all items a configuration may be refused: its first file that ends past the end of memory, or that its tree leaves no phandle
+abbrev pub IsRefusedBefore : Option (List File) → Source → List ℕ → Type 0
+IsRefusedBefore told (Config config folder kind) message = AfterMade told config folder kind nothing (Refuses statuses.Refused message)
+IsRefusedBefore told source message = ⊥
+
+-- what status 0 promises beyond the job, by what is asked for: of a build, what its images and trees are
+abbrev pub IsPromised : Option (List File) → Asked → List File → List ℕ → Type 0
+IsPromised told (Build source folder) outputs report = IsDescribedBuild told source folder outputs report
+IsPromised told asked outputs report = Unit {0}

@@ -1,0 +1,44 @@
+-- What a run is called to do by its words and by the files.
+use Rattle.std.specs.Prelude.{ℕ, List, [], ◌∷◌, Option, Some, None}
+use Rattle.dl_base.specs.Outside.{File}
+use Rattle.fdt_listing.specs.Listing.{listing}
+use Rattle.run_steps.specs.Endings.{Outcome}
+use Rattle.run_steps.specs.Steps.{IsWriting}
+use Rattle.run_steps.specs.Trees.{FlatTree, AfterTreeFile}
+use Rattle.dom0less_words.specs.Words.{Word, ScriptAsked, Asked, Build, Script, Show}
+use Rattle.dom0less_words.specs.Settings.{settings}
+use Rattle.build_sources.specs.Configs.{Made, AfterMade}
+use Rattle.build_sources.specs.Scripts.{script_file, unused_lines}
+use Rattle.dom0less.specs.Builds.{IsBuildJob}
+
+-- a tree's listing is put, and nothing is written
+abbrev pub IsTreeListing : FlatTree → Outcome → Type 0
+IsTreeListing tree outcome = IsWriting [] (listing tree.reserves tree.root) outcome
+
+-- the one output is the script; the report is the names that have no effect
+abbrev pub IsScriptWriting : Option Word → Made → Outcome → Type 0
+IsScriptWriting folder made outcome = IsWriting (script_file folder made ∷ []) (unused_lines made.settings.unused) outcome
+
+-- a configuration is read and made into a script, which is written
+abbrev pub IsScriptJob : Option (List File) → ScriptAsked → Outcome → Type 0
+IsScriptJob told ask outcome = AfterMade told ask.config ask.files ask.kind (IsScriptWriting ask.outputs) outcome
+
+-- what is asked for
+abbrev pub IsAskedJob : Option (List File) → Asked → Outcome → Type 0
+IsAskedJob told (Build source folder) outcome = IsBuildJob told source folder outcome
+IsAskedJob told (Script ask) outcome = IsScriptJob told ask outcome
+IsAskedJob told (Show tree) outcome = AfterTreeFile told tree IsTreeListing outcome
+IsAskedJob told asked outcome = ⊥
+
+-- words that ask for nothing have no job: they are refused, whatever the files hold
+abbrev pub IsSettingsJob : Option (List File) → Option Asked → Outcome → Type 0
+IsSettingsJob told None outcome = ⊥
+IsSettingsJob told (Some asked) outcome = IsAskedJob told asked outcome
+
+-- the words and the files call for this outcome, by what the files hold where that is told, and else by some answers of theirs
+abbrev pub CallsFor : List (List ℕ) → Option (List File) → Outcome → Type 0
+CallsFor words told outcome = IsSettingsJob told (settings words) outcome
+
+-- the words and these files do
+abbrev pub IsJob : List (List ℕ) → List File → Outcome → Type 0
+IsJob words held outcome = CallsFor words (Some held) outcome

@@ -1,0 +1,5 @@
+pub mod Lines
+pub mod Builds
+pub mod Job
+pub mod Headline
+pub mod Laws
