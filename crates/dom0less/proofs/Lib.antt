@@ -1,2 +1,3 @@
 mod OneOutcome
 mod Exact
+mod Stands
