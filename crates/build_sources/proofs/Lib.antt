@@ -6,3 +6,4 @@ pub mod PartialLemmas
 pub mod Avoided
 pub mod OneOutcome
 pub mod ScriptLoads
+pub mod Edited

@@ -5,6 +5,7 @@ ghost use Rattle.script_run.specs.Effect.{has_good_names, load_count};
 ghost use Rattle.dom0less_words.specs.Meant.{meant_source};
 ghost use Rattle.run_steps.specs.Steps.{nothing};
 ghost use Rattle.run_steps.specs.Stops.{IsDue, IsOwnDue, Grew};
+ghost use Rattle.build_sources.specs.Edited.{HasEditedTree, StandsOnEdited};
 ghost use Rattle.build_sources.specs.Handed.{HandsOn};
 ghost use Rattle.build_sources.specs.Meant.{meant_made, meant_stand};
 ghost use Rattle.build_sources.specs.Replays.{AfterMadeRun};
@@ -41,6 +42,7 @@ pub fn read_source<F: Files>(
     files: &mut F,
 ) -> Result<Stand, Stop>
     ensures stands { IfOk result (λ stand. StandsOn (F.held files.old) (meant_source source.now) (option_copied outputs.entry) (meant_stand stand)) }
+    ensures edited { IfOk result (λ stand. HasEditedTree (F.held files.old) (meant_source source.now) (option_copied outputs.entry) (meant_stand stand)) }
     ensures stopped { IfErr result (λ stop. IsDue (AfterSource (F.held files.old) (meant_source source.now) (option_copied outputs.entry) nothing) (F.faults files.old, F.absents files.old, F.overlong files.old) (F.faults files.new, F.absents files.new, F.overlong files.new) stop) }
     ensures grew { Grew (F.faults files.old, F.absents files.old, F.overlong files.old) (F.faults files.new, F.absents files.new, F.overlong files.new) }
     ensures kept { F.held files.new ≡ F.held files.old }
@@ -65,6 +67,7 @@ fn read_configuration<F: Files>(
     files: &mut F,
 ) -> Result<Stand, Stop>
     ensures stands { IfOk result (λ stand. HandsOn (AfterConfigured (F.held files.old) config.now (option_copied folder.entry) kind (option_copied outputs.entry)) (meant_stand stand)) }
+    ensures edited { IfOk result (λ stand. StandsOnEdited (F.held files.old) config.now (option_copied folder.entry) kind (option_copied outputs.entry) (meant_stand stand)) }
     ensures stopped { IfErr result (λ stop. IsDue (AfterConfigured (F.held files.old) config.now (option_copied folder.entry) kind (option_copied outputs.entry) nothing) (F.faults files.old, F.absents files.old, F.overlong files.old) (F.faults files.new, F.absents files.new, F.overlong files.new) stop) }
     ensures grew { Grew (F.faults files.old, F.absents files.old, F.overlong files.old) (F.faults files.new, F.absents files.new, F.overlong files.new) }
     ensures kept { F.held files.new ≡ F.held files.old }
