@@ -1,3 +1,4 @@
 mod OneOutcome
 mod Exact
 mod Stands
+mod Promises

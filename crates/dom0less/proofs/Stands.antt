@@ -1,24 +1,23 @@
 -- A build of what its files describe, step by step.
-use Rattle.std.proofs.Common.{◌≡◌, ◌≤◌, ◌∙◌, refl, sym, ap, ap₂, subst, ℕ, List, [], ◌∷◌, ◌++◌}
+use Rattle.std.proofs.Common.{◌≡◌, sym, ap, subst, ℕ, List, ◌++◌}
 use Rattle.std.specs.Prelude.{Option, Result, Ok, Err, IfOk, IfErr}
 use Rattle.dl_base.specs.Outside.{File}
 use Rattle.run_steps.specs.Endings.{Outcome, Builds}
 use Rattle.run_steps.specs.Outputs.{files_of, report_of, outcome_of}
-use Rattle.run_steps.specs.Steps.{IsWriting, OnResult, nothing}
+use Rattle.run_steps.specs.Steps.{nothing}
 use Rattle.run_steps.specs.Stops.{Counts, Grew, IsDue, IsOwnDue}
 use Rattle.run_steps.specs.declared.output.Build.{Build}
 use Rattle.run_steps.specs.declared.stop.Stop.{Stop}
 use Rattle.run_steps.proofs.Due.{due_here, own_due, stopped_later, stopped_anyway}
-use Rattle.run_steps.proofs.Step.{IsStep, Next, on_result_step}
+use Rattle.run_steps.proofs.Step.{IsStep, on_result_step}
 use Rattle.tree_plan.specs.Descriptions.{Description}
-use Rattle.tree_plan.specs.TreePlans.{TreePlan}
 use Rattle.dom0less_words.specs.Words.{Word, Source}
 use Rattle.build_sources.specs.Sources.{Stand, AfterSource, StandsOn, folder_of}
+use Rattle.build_sources.specs.Edited.{HasEditedTree}
 use Rattle.build_sources.specs.Partials.{AfterPartials, Describes}
 use Rattle.build_sources.proofs.SourceSteps.{source_step, partials_step}
 use Rattle.build_outputs.specs.Builds.{IsItemRefusal, AfterItems, built_of}
 use Rattle.build_outputs.specs.Isolation.{IsBuildOf}
-use Rattle.build_outputs.specs.Outputs.{outputs_of, report_of as report_of_plan, in_folder}
 use Rattle.dom0less.specs.Builds.{IsPlanWriting, IsDescribedJob, IsStandJob, IsBuildJob}
 use Rattle.dom0less.specs.Headline.{IsStandBuild, IsDescribedBuild}
 
@@ -71,10 +70,10 @@ module _ (told : Option (List File)) (source : Source) (folder : Option Word) wh
       build_made (Ok build) made = described_here (outcome_of build) made
       build_made (Err stop) made = tt
 
-      pub build_promised : (result : Result Build Stop) → IfOk result (λ build. IsStandBuild folder stand description (files_of build) (report_of build))
+      pub build_promised : HasEditedTree told source folder stand → (result : Result Build Stop) → IfOk result (λ build. IsStandBuild folder stand description (files_of build) (report_of build))
           → IfOk result (λ build. IsDescribedBuild told source folder (files_of build) (report_of build))
-      build_promised (Ok build) made = record { stand = stand; stands = stands; description = description; described = describes; built = made }
-      build_promised (Err stop) made = tt
+      build_promised edited (Ok build) made = record { stand = stand; stands = stands; description = description; described = describes; built = made; edited = edited }
+      build_promised edited (Err stop) made = tt
 
       pub build_stopped : (old new : Counts) (result : Result Build Stop) → IfErr result (λ stop. IsOwnDue (IsDescribedJob folder stand description) stop)
           → IfErr result (λ stop. IsDue (IsBuildJob told source folder) old new stop)

@@ -1,4 +1,0 @@
-use Rattle.dom0less.proofs.build.make_build.Goals as goal
-
-pub returns-clause-built : goal.returns-clause-built
-returns-clause-built c = ?
