@@ -3,3 +3,4 @@ mod TreeFiles
 mod Reports
 mod Zipped
 mod Folders
+mod Counts

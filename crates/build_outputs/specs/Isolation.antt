@@ -14,6 +14,8 @@ use Rattle.tree_plan.specs.Descriptions.{Description, partial_at}
 use Rattle.tree_plan.specs.TreePlans.{TreePlan, is_common}
 use Rattle.build_outputs.specs.Builds.{built_of}
 use Rattle.build_outputs.specs.Outputs.{tree_output, images_of, outputs_of, report_of, in_folder}
+use Rattle.build_outputs.specs.Totals.{totals_of}
+use Rattle.build_outputs.specs.declared.totals.Totals.{Totals}
 
 -- The bytes spell one tree. It lists exactly what is described of a guest, and the pages of the memory in it are those that the guest's map gives it as its own.
 pub record ListsAsDescribed (guest : GuestPlan) (partial : Option Tree) (bytes : List ℕ) : Type 0 where
@@ -28,12 +30,13 @@ AllListed description plan =
     (number : ℕ) (guest : GuestPlan) → slice_get plan.guests number ≡ Some guest
     → ListsAsDescribed guest (partial_at description.partials number) (tree_output guest (partial_at description.partials number)).1
 
--- no described item is refused, and these files, in a folder where one is given, and this report are those of the plan
-pub record IsBuildOf (boot : ℕ) (description : Description) (folder : Option (List ℕ)) (outputs : List File) (report : List ℕ) : Type 0 where
+-- no described item is refused, and these files, in a folder where one is given, this report and these totals are those of the plan
+pub record IsBuildOf (boot : ℕ) (description : Description) (folder : Option (List ℕ)) (outputs : List File) (report : List ℕ) (totals : Totals) : Type 0 where
   pub plan : TreePlan
   pub planned : built_of boot description ≡ Ok plan
   pub written : outputs ≡ in_folder folder (outputs_of boot description plan)
   pub reported : report ≡ report_of plan
+  pub counted : totals ≡ totals_of plan
   -- walking the image that is written for a guest translates an address exactly where the guest's description maps it, to the described frame, with the described rights and memory type
   pub walks : AllWalk plan.guests (images_of plan)
   -- frames of two guests meet only in a region that both name by one id

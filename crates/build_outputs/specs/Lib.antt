@@ -1,6 +1,7 @@
 pub mod Names
 pub mod Lengths
 pub mod Outputs
+pub mod Totals
 pub mod Builds
 pub mod Isolation
 pub mod Made

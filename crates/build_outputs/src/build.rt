@@ -14,12 +14,13 @@ use crate::lengths::write_tree;
 use crate::names::HOST;
 use crate::refusals::{images_stop, plan_stop};
 use crate::report::make_report;
+use crate::totals::{Totals, count_totals};
 use crate::trees::write_trees;
 use crate::written::{name_images, put_in_turn};
 use dl_base::{Bytes, List, Loaded};
 use domain_plan::Plan;
 use fdt_tree::{Reserve, Tree};
-use guest_fdt::laws::{plans_are_bounded, trees_list_the_guests};
+use guest_fdt::laws::{plans_are_bounded, plans_are_few, trees_list_the_guests};
 use guest_images::build_images;
 use run_steps::{Output, Stop};
 use std::alloc::Global;
@@ -32,6 +33,8 @@ pub struct Built {
     pub outputs: List<Output>,
     /// The report: the lines of each guest, and of the frames that are left.
     pub report: Bytes,
+    /// What it comes to over all guests.
+    pub totals: Totals,
 }
 
 /// What is written for the guests that a host's tree describes; or the first of all described items that is refused, with
@@ -50,8 +53,8 @@ pub fn build_described(
     folder: Option<&str>,
 ) -> Result<Built, Stop>
     requires { IsTrue (list_all (λ reserve. not (is_last_pair reserve)) reserves.now) }
-    // Nothing is refused, and the files and the report are those of the plan; the images isolate the guests.
-    ensures built { IfOk result (λ built. IsBuildOf boot (description_of tree.now reserves.now loads.now partials.now) (option_copied folder.entry) (files_in built.outputs) built.report) }
+    // Nothing is refused, and the files, the report and the totals are those of the plan; the images isolate the guests.
+    ensures built { IfOk result (λ built. IsBuildOf boot (description_of tree.now reserves.now loads.now partials.now) (option_copied folder.entry) (files_in built.outputs) built.report built.totals) }
     // Memory ran out, or the first refused item is said with the first reason against it.
     ensures stopped { IfErr result (λ stop. IsOwnDue (AfterItems boot (description_of tree.now reserves.now loads.now partials.now) nothing) stop) }
 {
@@ -64,6 +67,7 @@ pub fn build_described(
     };
     let guests = planned.as_slice();
     plans_are_bounded();
+    plans_are_few();
     trees_list_the_guests();
     let images = match build_images(alloc, guests, &mut pool) {
         Ok(images) => images,
@@ -77,8 +81,14 @@ pub fn build_described(
         Ok(trees) => trees,
         Err(stop) => return Err(stop),
     };
-    let report = make_report(alloc, guests, images.as_slice(), pool.free_frames())?;
+    let left = pool.free_frames();
+    let totals = count_totals(guests, images.as_slice(), left);
+    let report = make_report(alloc, guests, images.as_slice(), left)?;
     let images = name_images(alloc, folder, guests, images)?;
     let outputs = put_in_turn(alloc, folder, host, trees, images)?;
-    Ok(Built { outputs, report })
+    Ok(Built {
+        outputs,
+        report,
+        totals,
+    })
 }

@@ -7,7 +7,9 @@ mod lengths;
 mod names;
 mod refusals;
 mod report;
+mod totals;
 mod trees;
 mod written;
 
 pub use build::{Built, build_described};
+pub use totals::Totals;

@@ -68,3 +68,12 @@ head_line plan tables = line (name_text plan ++ counts_text plan tables)
 -- the last line: how many frames are left
 abbrev pub free_line : ℕ → List ℕ
 free_line frames = line (codes "free " ++ decimal frames)
+
+-- a count with what stands before it
+abbrev pub counted : List ℕ → ℕ → List ℕ
+counted label count = label ++ decimal count
+
+-- the line of the tree that is generated for a number: how many guests it has, their pages of memory and the tables of their images, and how many frames are left
+abbrev pub generated_line : ℕ → ℕ → ℕ → ℕ → ℕ → List ℕ
+generated_line number guests ram tables free =
+    line (counted (codes "gen ") number ++ (counted (codes " guests ") guests ++ (counted (codes " ram ") ram ++ (counted (codes " tables ") tables ++ counted (codes " free ") free))))

@@ -1,11 +1,11 @@
 // The lines of a guest.
 ghost use Rattle.std.specs.Prelude.{◌≡◌, ◌++◌, All, OnOk, flat_map};
 ghost use Rattle.dl_base.specs.Maps.{AreMapRanges};
-ghost use Rattle.build_report.specs.Lines.{port_line, run_line, spi_line};
+ghost use Rattle.build_report.specs.Lines.{port_line, ram_pages, run_line, spi_line};
 ghost use Rattle.build_report.specs.Addresses.{HasAddresses};
 ghost use Rattle.build_report.specs.Report.{guest_lines};
 
-use crate::lines::{append_head, append_port, append_run, append_spi};
+use crate::lines::{append_head, append_port, append_run, append_spi, pages_in};
 use dl_base::{Bytes, MapRange};
 use domain_plan::GuestPlan;
 use std::alloc::{AllocError, Global};
@@ -27,6 +27,14 @@ pub fn append_guest(
     append_runs(alloc, report, plan.ranges.as_slice())?;
     append_spis(alloc, report, plan.spis.as_slice())?;
     append_ports(alloc, report, plan.ports.as_slice())
+}
+
+/// A guest's pages of memory, of 4,096 bytes each.
+pub fn ram_pages(plan: &GuestPlan) -> u64
+    requires { AreMapRanges plan.now.ranges }
+    ensures { result ≡ ram_pages plan.now.ranges }
+{
+    pages_in(plan.ranges.as_slice())
 }
 
 /// Adds the lines of runs.

@@ -1,6 +1,6 @@
 // The lines of a report, each added to those before. After want of memory part of a line may stand there.
 ghost use Rattle.std.specs.Prelude.{◌≡◌, ◌++◌, ◌<◌, ◌^◌, OnOk, codes, decimal};
-ghost use Rattle.build_report.specs.Lines.{kind_text, address_text, places_text, run_line, spi_line, peer_text, port_line, name_text, counts_text, head_line, free_line, ram_in, ram_pages};
+ghost use Rattle.build_report.specs.Lines.{kind_text, address_text, places_text, run_line, spi_line, peer_text, port_line, name_text, counts_text, head_line, free_line, counted, generated_line, ram_in, ram_pages};
 ghost use Rattle.build_report.specs.Addresses.{HasAddresses};
 
 use dl_base::{Bytes, Kind, MapRange};
@@ -17,6 +17,36 @@ pub fn append_free(alloc: Global, report: &mut Bytes, frames: u64) -> Result<(),
     report.append(b"free ")?;
     report.append_decimal(alloc, frames)?;
     report.append(b"\n")
+}
+
+/// Adds a count with what stands before it.
+fn append_count(alloc: Global, text: &mut Bytes, label: &[u8], count: u64) -> Result<(), AllocError>
+    ensures { OnOk result (text.new ≡ text.old ++ counted label.now count) }
+{
+    text.append(label)?;
+    text.append_decimal(alloc, count)
+}
+
+/// Adds the line of the tree that is generated for a number: how many guests it has, their pages of memory and the tables
+/// of their images, and how many frames are left, all in decimal; a page has 4,096 bytes. After want of memory part of it
+/// may stand in the text.
+pub fn append_generated(
+    alloc: Global,
+    text: &mut Bytes,
+    number: u64,
+    guests: u64,
+    ram: u64,
+    tables: u64,
+    free: u64,
+) -> Result<(), AllocError>
+    ensures { OnOk result (text.new ≡ text.old ++ generated_line number guests ram tables free) }
+{
+    append_count(alloc, text, b"gen ", number)?;
+    append_count(alloc, text, b" guests ", guests)?;
+    append_count(alloc, text, b" ram ", ram)?;
+    append_count(alloc, text, b" tables ", tables)?;
+    append_count(alloc, text, b" free ", free)?;
+    text.append(b"\n")
 }
 
 /// A kind as it is shown.
@@ -114,8 +144,8 @@ fn ram_in(run: &MapRange) -> u64
     }
 }
 
-/// A guest's pages of memory.
-fn ram_pages(runs: &[MapRange]) -> u64
+/// The pages of memory in runs.
+pub(crate) fn pages_in(runs: &[MapRange]) -> u64
     requires { ram_pages runs.now < 2 ^ 64 }
     ensures { result ≡ ram_pages runs.now }
 {
@@ -146,7 +176,7 @@ fn append_counts(
     requires { ram_pages plan.now.ranges < 2 ^ 64 }
     ensures { OnOk result (report.new ≡ report.old ++ counts_text plan.now tables) }
 {
-    let pages = ram_pages(plan.ranges.as_slice());
+    let pages = pages_in(plan.ranges.as_slice());
     report.append(b" cpus ")?;
     report.append_decimal(alloc, u64::from(plan.cpus))?;
     report.append(b" ram ")?;

@@ -7,3 +7,4 @@ pub mod Avoided
 pub mod OneOutcome
 pub mod ScriptLoads
 pub mod Pairs
+pub mod Edited

@@ -18,7 +18,8 @@ use ib_script::Command;
 use run_steps::{Stop, TreeFile, read_tree};
 use std::alloc::Global;
 
-/// What a build stands on that begins with the script of this file, the tree that it is run on, and the folder of its files.
+/// What a build stands on that begins with a script and the tree that it is run on; its files are in a folder where one is
+/// given.
 pub(crate) fn replay<F: Files>(
     alloc: Global,
     script: &str,

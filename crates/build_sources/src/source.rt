@@ -5,10 +5,11 @@ ghost use Rattle.script_run.specs.Effect.{has_good_names, load_count};
 ghost use Rattle.dom0less_words.specs.Meant.{meant_source};
 ghost use Rattle.run_steps.specs.Steps.{nothing};
 ghost use Rattle.run_steps.specs.Stops.{IsDue, IsOwnDue, Grew};
+ghost use Rattle.build_sources.specs.Edited.{HasEditedTree, StandsOnEdited};
 ghost use Rattle.build_sources.specs.Handed.{HandsOn};
 ghost use Rattle.build_sources.specs.Meant.{meant_made, meant_stand};
 ghost use Rattle.build_sources.specs.Replays.{AfterMadeRun};
-ghost use Rattle.build_sources.specs.Sources.{AfterConfigured, AfterReady, AfterSource, StandsOn, folder_of as files_folder};
+ghost use Rattle.build_sources.specs.Sources.{AfterConfigured, AfterReady, AfterSource, StandsOn, folder_of};
 
 use crate::configuration::{Made, make_script};
 use crate::replay::replay;
@@ -22,7 +23,7 @@ use std::alloc::Global;
 
 /// The folder of the files that a configuration or a script names, where one is given.
 pub fn folder_of<'a>(source: &Source<'a>) -> Option<&'a str>
-    ensures { option_copied result ≡ files_folder (meant_source source.now) }
+    ensures { option_copied result ≡ folder_of (meant_source source.now) }
 {
     match *source {
         Source::Config(_, folder, _) => folder,
@@ -31,9 +32,9 @@ pub fn folder_of<'a>(source: &Source<'a>) -> Option<&'a str>
     }
 }
 
-/// Reads what a build stands on, from where it begins: of a configuration the script is made and run on the host's tree, of a
-/// script that on its tree, and a ready tree is read alone. `outputs` is the folder of the outputs, where one is given, which
-/// a configuration's boot script is one of. Writes nothing.
+/// Reads what a build stands on, from where it begins. Of a configuration the script is made, and run on the host's tree; a
+/// script is run on its tree; and a ready tree is read alone. `outputs` is the folder of the outputs, where one is given: a
+/// configuration's boot script is the first of them. Writes nothing.
 pub fn read_source<F: Files>(
     alloc: Global,
     source: &Source<'_>,
@@ -41,6 +42,7 @@ pub fn read_source<F: Files>(
     files: &mut F,
 ) -> Result<Stand, Stop>
     ensures stands { IfOk result (λ stand. StandsOn (F.held files.old) (meant_source source.now) (option_copied outputs.entry) (meant_stand stand)) }
+    ensures edited { IfOk result (λ stand. HasEditedTree (F.held files.old) (meant_source source.now) (option_copied outputs.entry) (meant_stand stand)) }
     ensures stopped { IfErr result (λ stop. IsDue (AfterSource (F.held files.old) (meant_source source.now) (option_copied outputs.entry) nothing) (F.faults files.old, F.absents files.old, F.overlong files.old) (F.faults files.new, F.absents files.new, F.overlong files.new) stop) }
     ensures grew { Grew (F.faults files.old, F.absents files.old, F.overlong files.old) (F.faults files.new, F.absents files.new, F.overlong files.new) }
     ensures kept { F.held files.new ≡ F.held files.old }
@@ -54,8 +56,8 @@ pub fn read_source<F: Files>(
     }
 }
 
-/// What a build stands on that begins with the configuration of this file, the folder of its files, and where its script loads
-/// files from.
+/// What a build stands on that begins with a configuration, whose files are in a folder where one is given, and whose script
+/// loads them by a command of this kind.
 fn read_configuration<F: Files>(
     alloc: Global,
     config: &str,
@@ -65,6 +67,7 @@ fn read_configuration<F: Files>(
     files: &mut F,
 ) -> Result<Stand, Stop>
     ensures stands { IfOk result (λ stand. HandsOn (AfterConfigured (F.held files.old) config.now (option_copied folder.entry) kind (option_copied outputs.entry)) (meant_stand stand)) }
+    ensures edited { IfOk result (λ stand. StandsOnEdited (F.held files.old) config.now (option_copied folder.entry) kind (option_copied outputs.entry) (meant_stand stand)) }
     ensures stopped { IfErr result (λ stop. IsDue (AfterConfigured (F.held files.old) config.now (option_copied folder.entry) kind (option_copied outputs.entry) nothing) (F.faults files.old, F.absents files.old, F.overlong files.old) (F.faults files.new, F.absents files.new, F.overlong files.new) stop) }
     ensures grew { Grew (F.faults files.old, F.absents files.old, F.overlong files.old) (F.faults files.new, F.absents files.new, F.overlong files.new) }
     ensures kept { F.held files.new ≡ F.held files.old }
@@ -103,7 +106,7 @@ fn run_made(alloc: Global, outputs: Option<&str>, made: Made) -> Result<Stand, S
     })
 }
 
-/// What a build stands on that begins with the ready tree of this file.
+/// What a build stands on that begins with a ready tree.
 fn read_ready<F: Files>(alloc: Global, tree: &str, files: &mut F) -> Result<Stand, Stop>
     ensures stands { IfOk result (λ stand. HandsOn (AfterReady (F.held files.old) tree.now) (meant_stand stand)) }
     ensures stopped { IfErr result (λ stop. IsDue (AfterReady (F.held files.old) tree.now nothing) (F.faults files.old, F.absents files.old, F.overlong files.old) (F.faults files.new, F.absents files.new, F.overlong files.new) stop) }

@@ -1,2 +1,4 @@
 mod OneOutcome
 mod Exact
+mod Stands
+mod Promises

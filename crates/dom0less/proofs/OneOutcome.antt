@@ -1,5 +1,5 @@
 -- The words and files that tell what they hold call for one outcome.
-use Rattle.std.proofs.Common.{ℕ, List, Some, None}
+use Rattle.std.proofs.Common.{List, Some, None}
 use Rattle.std.specs.Prelude.{Option}
 use Rattle.dl_base.specs.Outside.{File}
 use Rattle.run_steps.specs.Laws.{IsDetermined}

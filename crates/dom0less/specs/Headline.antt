@@ -12,6 +12,7 @@ use Rattle.run_steps.specs.Trees.{FlatTree, IsTreeFile}
 use Rattle.tree_plan.specs.Descriptions.{Description}
 use Rattle.dom0less_words.specs.Words.{Word, Source, Config, Asked, Build}
 use Rattle.build_sources.specs.Sources.{Stand, StandsOn, folder_of}
+use Rattle.build_sources.specs.Edited.{HasEditedTree}
 use Rattle.build_sources.specs.Partials.{Describes}
 use Rattle.build_outputs.specs.Builds.{built_of}
 use Rattle.build_outputs.specs.Isolation.{IsBuildOf}
@@ -31,6 +32,8 @@ pub record IsDescribedBuild (told : Option (List File)) (source : Source) (folde
   pub description : Description
   pub described : Describes told (folder_of source) stand description
   pub built : IsStandBuild folder stand description outputs report
+  -- of a configuration, what stands there is both its edited tree and what its printed script makes of the host's tree
+  pub edited : HasEditedTree told source folder stand
 
 -- The files are read and describe guests; the message names the first described item that is refused, with the first reason against it.
 pub record NamesFirstRefused (told : Option (List File)) (source : Source) (folder : Option Word) (message : List ℕ) : Type 0 where

@@ -31,8 +31,14 @@ pub(crate) fn prepare_build<F: Files>(
     ensures stopped { IfErr result (λ stop. IsDue (IsBuildJob (F.held files.old) (meant_source source.now) (option_copied folder.entry)) (F.faults files.old, F.absents files.old, F.overlong files.old) (F.faults files.new, F.absents files.new, F.overlong files.new) stop) }
     ensures kept { F.held files.new ≡ F.held files.old }
 {
-    let stand = read_source(alloc, source, folder, files)?;
-    let partials = read_partials(alloc, &stand, folder_of(source), files)?;
+    let stand = match read_source(alloc, source, folder, files) {
+        Ok(stand) => stand,
+        Err(stop) => return Err(stop),
+    };
+    let partials = match read_partials(alloc, &stand, folder_of(source), files) {
+        Ok(partials) => partials,
+        Err(stop) => return Err(stop),
+    };
     make_build(alloc, stand, &partials, folder)
 }
 

@@ -144,6 +144,8 @@ pub fn run<F: Files, O: Outs, S: Sink, E: Sink>(
 
 /// Says why words are refused, and answers the status.
 fn say_fault<E: Sink>(err: &mut E, fault: &WordsFault) -> Status
+    ensures status { (result ≡ Status.Words) ⊎ (result ≡ Status.Memory) }
+    ensures said { result ≡ Status.Memory → Said E.taken E.faults err.old err.new (line memory_message) }
     ensures refused { (text : _) → fault.now ≡ WordsFault.Refused text → (result ≡ Status.Words) × Said E.taken E.faults err.old err.new (string_bytes text) }
     ensures usage { fault.now ≡ WordsFault.Usage → (result ≡ Status.Words) × Said E.taken E.faults err.old err.new (line (codes "usage")) }
     ensures memory { fault.now ≡ WordsFault.Memory → (result ≡ Status.Memory) × Said E.taken E.faults err.old err.new (line memory_message) }

@@ -1,5 +1,5 @@
 //! The words of the command line.
-ghost use Rattle.std.specs.Prelude.{◌≡◌, ◌≢◌, IfOk, Err, Some, None, map, string_bytes, true, false};
+ghost use Rattle.std.specs.Prelude.{◌≡◌, ◌≢◌, ◌≤◌, IfOk, Ok, Err, Some, None, map, string_bytes, true, false};
 ghost use Rattle.clap.specs.Words.{kind_of};
 ghost use Rattle.clap.specs.declared.error.kind.ErrorKind.TheVariants.{OutOfMemory};
 ghost use Rattle.dom0less_words.specs.Command.{is_taken};
@@ -29,6 +29,8 @@ pub enum WordsFault {
 /// option that does not go with the mode; `Memory` where memory ran out.
 pub fn read_words<'a>(alloc: Global, words: &'a [String]) -> Result<Asked<'a>, WordsFault>
     ensures asked { IfOk result (λ asked. settings (map string_bytes words.now) ≡ Some (meant asked)) }
+    // A tree is generated for a number up to the limit alone.
+    ensures bounded { (number : _) → result ≡ Ok (Asked.Generate number) → number ≤ 1000000 }
     ensures refused { (text : _) → result ≡ Err (WordsFault.Refused text) → is_taken (map string_bytes words.now) ≡ false }
     ensures usage { result ≡ Err WordsFault.Usage → (is_taken (map string_bytes words.now) ≡ true) × (settings (map string_bytes words.now) ≡ None) }
 {

@@ -166,3 +166,26 @@ module _ (description : Description) (clear : has_no_fault (joined (host_of desc
       let found = guest_at description.root description.partials 0 number number (guest_nodes description.root) guest (omega arith) there in
       let free = head_is_free description.root number found.0 partial (subst (λ (g : Guest). has_no_fault (own_entries number g) ≡ true) (sym found.1) (own_clear number guest there)) in
       (found.0, sym (within description.root number found.0 partial (head_is_within number found.0 free)) ∙ found.1, free)
+
+-- ---- how many guests are planned
+
+few_plans : (passed : List Passed) (number : ℕ) (guests : List Guest) (drawn : List (List FrameRange)) → length (guest_plans passed number guests drawn) ≤ length guests
+few_plans passed number [] [] = omega arith
+few_plans passed number [] (frames ∷ drawn) = omega arith
+few_plans passed number (guest ∷ guests) [] = omega arith
+few_plans passed number (guest ∷ guests) (frames ∷ drawn) = let later = few_plans passed (number + 1) guests drawn in omega arith
+
+as_many_nodes : (root : Tree) (partials : List (Option Tree)) (number : ℕ) (nodes : List Node) → length (guests_from root partials number nodes) ≡ length nodes
+as_many_nodes root partials number [] = refl
+as_many_nodes root partials number (node ∷ nodes) = ap suc (as_many_nodes root partials (number + 1) nodes)
+
+-- at most sixteen
+pub few_planned : (description : Description) (plan : TreePlan) → plan_of description ≡ Ok plan → length plan.guests ≤ 16
+unfolding guests_of
+few_planned description plan is =
+    let planned = is_planned description plan is in
+    let few = few_guests description planned.clear in
+    let as_many = as_many_nodes description.root description.partials 0 (guest_nodes description.root) in
+    let plans = few_plans (items_in description) 0 (guests_of description) planned.heaps.drawn in
+    let same = ap (λ (guests : List GuestPlan). length guests) planned.guests in
+    omega arith

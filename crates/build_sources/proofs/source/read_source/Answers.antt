@@ -8,3 +8,6 @@ returns-in-Config-clause-stopped g c = rw c.in-Config.is c.read_configuration.en
 
 pub returns-in-Replay-clause-stopped : goal.returns-in-Replay-clause-stopped
 returns-in-Replay-clause-stopped g c = rw c.in-Replay.is c.replay.ensures.stopped
+
+pub returns-in-Config-clause-edited : goal.returns-in-Config-clause-edited
+returns-in-Config-clause-edited g c = rw c.in-Config.is c.read_configuration.ensures.edited
