@@ -1,0 +1,84 @@
+// A run and what it meets outside.
+use dl_base::{MemFiles, MemOuts, MemSink, Status};
+use std::alloc::{AllocError, Global};
+
+/// How many outputs a run has at most: a script, the host's tree, and two files of each of sixteen guests.
+pub(crate) const OUTPUTS: usize = 34;
+
+// Room for the bytes of their names and contents.
+const BYTES: usize = 2_000_000;
+
+// Room for a report or a listing, and for what is said, in bytes.
+const REPORT: usize = 100_000;
+
+const SAID: usize = 4000;
+
+/// The words of a run, the program's name first, and what it meets outside. What of its outputs is shown beside their
+/// lengths, and the file, if there is one, whose first lines alone are held, one more in each run.
+#[derive(Drop)]
+pub(crate) struct Case {
+    pub(crate) words: Vec<String>,
+    pub(crate) files: MemFiles,
+    pub(crate) outs: MemOuts,
+    pub(crate) out: MemSink,
+    pub(crate) err: MemSink,
+    pub(crate) shown: Vec<String>,
+    pub(crate) cut: Option<String>,
+}
+
+impl Case {
+    /// The program's name alone, no files, and room for all that a run writes.
+    pub(crate) fn new(alloc: Global) -> Result<Case, AllocError> {
+        let mut case = Case {
+            words: Vec::new(alloc),
+            files: MemFiles::new(alloc),
+            outs: MemOuts::new(alloc),
+            out: MemSink::new(alloc),
+            err: MemSink::new(alloc),
+            shown: Vec::new(alloc),
+            cut: None,
+        };
+        case.clear(alloc)?;
+        case.add_word(alloc, "dom0less")?;
+        Ok(case)
+    }
+
+    /// Nothing is written, and there is room for all that a run writes.
+    pub(crate) fn clear(&mut self, alloc: Global) -> Result<(), AllocError> {
+        self.outs = MemOuts::new(alloc);
+        self.out = MemSink::new(alloc);
+        self.err = MemSink::new(alloc);
+        self.outs.reserve(OUTPUTS, BYTES)?;
+        self.out.reserve(REPORT)?;
+        self.err.reserve(SAID)
+    }
+
+    /// Adds a word behind the others.
+    pub(crate) fn add_word(&mut self, alloc: Global, word: &str) -> Result<(), AllocError> {
+        self.words.push(String::from_str(alloc, word)?)?;
+        Ok(())
+    }
+
+    /// The call of this number fails: of the files, of the outputs, of standard output or of standard error.
+    pub(crate) fn fail_at(&mut self, place: &str, call: u64) -> Result<(), AllocError> {
+        match place {
+            "files" => self.files.fail_at(call),
+            "outs" => self.outs.fail_at(call),
+            "out" => self.out.fail_at(call),
+            "err" => self.err.fail_at(call),
+            _ => Ok(()),
+        }
+    }
+
+    /// Runs the program.
+    pub(crate) fn run(&mut self, alloc: Global) -> Status {
+        dom0less::run(
+            alloc,
+            &self.words,
+            &mut self.files,
+            &mut self.outs,
+            &mut self.out,
+            &mut self.err,
+        )
+    }
+}

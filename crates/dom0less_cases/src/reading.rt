@@ -1,0 +1,110 @@
+// Reading a case. Each line is a word of these and what belongs to it:
+//
+//     word TEXT         a further word of the run
+//     file NAME         a file is held under this name, whose bytes are those of the lines up to the next file
+//     from PATH         the bytes of this file
+//     line TEXT         a line of text
+//     zeros COUNT       so many bytes that are zero
+//     fail PLACE CALL   the call of this number fails: of `files`, `outs`, `out` or `err`
+//     cut NAME          the run is made for the first lines of this file, with one more each time
+//
+// and the words by which `content` shows more of an output than its length.
+use crate::case::Case;
+use std::alloc::{AllocError, Global};
+use std::{fs, io};
+
+/// A file that is being put together.
+#[derive(Drop)]
+struct Held {
+    name: String,
+    bytes: Vec<u8>,
+}
+
+/// The case that the file of this name describes.
+pub(crate) fn read_case(rt: &(impl std::rt::Files + AllocGlobal), name: &str) -> io::Result<Case> {
+    let text = fs::read_to_string(rt, name)?;
+    let mut case = Case::new(rt.alloc())?;
+    let mut held = None;
+    for line in text.lines() {
+        if let Some((kind, value)) = line.split_once(' ') {
+            if kind == "file" {
+                end_file(&mut case, &held)?;
+                held = Some(begin_file(rt.alloc(), value)?);
+            } else if let Some(file) = &mut held {
+                add_bytes(rt, file, kind, value)?;
+            }
+            add_call(rt.alloc(), &mut case, line, kind, value)?;
+        }
+    }
+    end_file(&mut case, &held)?;
+    Ok(case)
+}
+
+/// A file of this name without bytes.
+fn begin_file(alloc: Global, name: &str) -> Result<Held, AllocError> {
+    Ok(Held {
+        name: String::from_str(alloc, name)?,
+        bytes: Vec::new(alloc),
+    })
+}
+
+/// The file is held.
+fn end_file(case: &mut Case, held: &Option<Held>) -> Result<(), AllocError> {
+    match held {
+        Some(file) => case.files.add(file.name.as_str(), &file.bytes),
+        None => Ok(()),
+    }
+}
+
+/// Adds what a line gives to the bytes of a file.
+fn add_bytes(
+    rt: &(impl std::rt::Files + AllocGlobal),
+    file: &mut Held,
+    kind: &str,
+    value: &str,
+) -> io::Result<()> {
+    match kind {
+        "from" => file.bytes.extend_from_slice(&fs::read(rt, value)?)?,
+        "line" => {
+            file.bytes.extend_from_slice(value.as_bytes())?;
+            file.bytes.extend_from_slice(b"\n")?;
+        }
+        "zeros" => {
+            let length = file.bytes.len().saturating_add(number(value) as usize);
+            file.bytes.resize(length, 0)?;
+        }
+        _ => {}
+    }
+    Ok(())
+}
+
+/// Adds a word, a call that fails, the file that is cut, or what is shown.
+fn add_call(
+    alloc: Global,
+    case: &mut Case,
+    line: &str,
+    kind: &str,
+    value: &str,
+) -> Result<(), AllocError> {
+    match kind {
+        "word" => case.add_word(alloc, value),
+        "fail" => match value.split_once(' ') {
+            Some((place, call)) => case.fail_at(place, number(call) as u64),
+            None => Ok(()),
+        },
+        "cut" => {
+            case.cut = Some(String::from_str(alloc, value)?);
+            Ok(())
+        }
+        "text" | "tree" | "frames" | "walk" | "entry" => {
+            case.shown.push(String::from_str(alloc, line)?)?;
+            Ok(())
+        }
+        _ => Ok(()),
+    }
+}
+
+/// A number in decimal, or 0.
+fn number(text: &str) -> u32 {
+    text.parse::<u32>().unwrap_or(0)
+}

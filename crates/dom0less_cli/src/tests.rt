@@ -1,0 +1,34 @@
+// The trusted edge: what the adapters do at the real file system.
+use crate::folder::Folder;
+use dl_base::{FileError, Files, Outs, SizeError};
+use std::fs;
+use std::test::Fail;
+
+#[test]
+fn adapters_write_read_and_miss_real_files(rt: HostRuntime) -> Result<(), Fail> {
+    let id = std::process::id(rt.process());
+    let name = format!(in rt.alloc(); "adapters-{id}")?;
+    let mut folder = Folder::new(&rt);
+    assert_eq!(rt;
+        folder.read(rt.alloc(), name.as_str(), 4).err(),
+        Some(FileError::Absent)
+    );
+    assert_eq!(rt; folder.size(name.as_str()), Err(SizeError::Absent));
+    assert_eq!(rt; folder.write(name.as_str(), b"tree").is_ok(), true);
+    assert_eq!(rt; folder.size(name.as_str()), Ok(4));
+    assert_eq!(rt;
+        folder.read(rt.alloc(), name.as_str(), 4)?.as_slice(),
+        b"tree".as_slice()
+    );
+    assert_eq!(rt;
+        folder.read(rt.alloc(), name.as_str(), 3).err(),
+        Some(FileError::Longer)
+    );
+    fs::remove_file(&rt, name.as_str())?;
+    assert_eq!(rt;
+        folder.read(rt.alloc(), ".", 4).err(),
+        Some(FileError::Failed)
+    );
+    assert_eq!(rt; folder.write(".", b"tree").is_ok(), false);
+    Ok(())
+}

@@ -1,0 +1,65 @@
+// A run of `dom0less` in memory.
+ghost use Rattle.std.specs.Prelude.{◌≡◌, ◌∷◌, IfOk, map, codes, string_bytes};
+ghost use Rattle.run_steps.specs.Endings.{Refuses, Builds};
+ghost use Rattle.dom0less.specs.Job.{CallsFor};
+
+use dl_base::{Files, MemFiles, MemOuts, MemSink, Status};
+use std::alloc::{AllocError, Global};
+use std::{fs, io};
+
+// Room for what a job writes: the image of the example has 12,336 bytes.
+const ROOM: usize = 100_000;
+
+/// What a run answered, wrote and put.
+#[derive(Drop)]
+pub(crate) struct Job {
+    pub(crate) status: Status,
+    pub(crate) outs: MemOuts,
+    pub(crate) out: MemSink,
+}
+
+/// The files of these names in the folder that the program runs in.
+pub(crate) fn read_files(
+    rt: &(impl std::rt::Files + AllocGlobal),
+    names: &[&str],
+) -> io::Result<MemFiles> {
+    let mut files = MemFiles::new(rt.alloc());
+    for name in names {
+        let bytes = fs::read(rt, name)?;
+        files.add(name, &bytes)?;
+    }
+    Ok(files)
+}
+
+/// The words of a command line, the program's name first.
+fn words_of(alloc: Global, more: &[&str]) -> Result<Vec<String>, AllocError>
+    ensures { IfOk result (λ words. map string_bytes words.items ≡ codes "dom0less" ∷ map (λ word. word.now) more.now) }
+{
+    let mut words = Vec::new(alloc);
+    words.push(String::from_str(alloc, "dom0less")?)?;
+    for word in more {
+        words.push(String::from_str(alloc, word)?)?;
+    }
+    Ok(words)
+}
+
+/// Runs over files with these words behind the program's name. A build has taken what the words and the files call for,
+/// and a refused description is refused by them.
+pub(crate) fn run_job<F: Files>(
+    alloc: Global,
+    files: &mut F,
+    more: &[&str],
+) -> Result<Job, AllocError>
+    ensures built { IfOk result (λ job. job.status ≡ Status.Built → CallsFor (codes "dom0less" ∷ map (λ word. word.now) more.now) (F.held files.old) (Builds job.outs.written job.out.bytes)) }
+    ensures refused { IfOk result (λ job. job.status ≡ Status.Refused → (line : _) × CallsFor (codes "dom0less" ∷ map (λ word. word.now) more.now) (F.held files.old) (Refuses Status.Refused line)) }
+{
+    let words = words_of(alloc, more)?;
+    let mut outs = MemOuts::new(alloc);
+    outs.reserve(2, ROOM)?;
+    let mut out = MemSink::new(alloc);
+    out.reserve(ROOM)?;
+    let mut err = MemSink::new(alloc);
+    err.reserve(ROOM)?;
+    let status = dom0less::run(alloc, &words, files, &mut outs, &mut out, &mut err);
+    Ok(Job { status, outs, out })
+}

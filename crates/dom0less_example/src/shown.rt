@@ -1,0 +1,67 @@
+// What an image file holds, for the eye.
+ghost use Rattle.std.specs.Prelude.{◌≡◌, ◌<◌, ◌^◌};
+
+use stage2_walk::{Image, Step, pages_spanned, read_image};
+use std::alloc::{AllocError, Global};
+use std::io;
+
+/// Shows the length of an image file and what stands in its header, and where addresses below 2^40 are walked to.
+pub(crate) fn show_image(
+    rt: &(impl Print + AllocGlobal),
+    bytes: &[u8],
+    addresses: &[u64],
+) -> io::Result<()> {
+    let Ok(image) = read_image(rt.alloc(), bytes) else {
+        return println!(rt; "domU0.s2: no image");
+    };
+    let length = bytes.len();
+    let root = image.root();
+    let tables = image.page_count();
+    println!(rt; "domU0.s2: {length} bytes, root frame {root:#x}, {tables} tables")?;
+    for &address in addresses {
+        show_walk(rt, &image, address % (1 << 40))?;
+    }
+    Ok(())
+}
+
+/// Shows the words that the walk of an address meets, and where it goes.
+fn show_walk(rt: &(impl Print + AllocGlobal), image: &Image, address: u64) -> io::Result<()>
+    requires { address < 2 ^ 40 }
+{
+    let Step::Mapped { address: host, .. } = image.walk(address) else {
+        return println!(rt; "{address:#x}: not mapped");
+    };
+    print!(rt; "{address:#x}: words")?;
+    for word in &words_met(rt.alloc(), image, address)? {
+        print!(rt; " {word:#x}")?;
+    }
+    println!(rt; ", host address {host:#x}")
+}
+
+/// The words that the walk of an address meets, down to the first that names no table.
+fn words_met(alloc: Global, image: &Image, address: u64) -> Result<Vec<u64>, AllocError>
+    requires { address < 2 ^ 40 }
+{
+    let mut words = Vec::new(alloc);
+    let mut frame = image.root() + address / (1 << 39);
+    for level in 1..4u8 {
+        let index = (address / 4096 / pages_spanned(level) % 512) as usize;
+        let Some(word) = image.word(frame, index) else {
+            break;
+        };
+        words.push(word)?;
+        if word % 4 != 3 {
+            break;
+        }
+        frame = word / 4096 % (1 << 36);
+    }
+    Ok(words)
+}
+
+/// Shows a text, if it is one.
+pub(crate) fn show_text(rt: &impl Print, bytes: &[u8]) -> io::Result<()> {
+    match str::from_utf8(bytes) {
+        Ok(text) => print!(rt; "{text}"),
+        Err(_) => Ok(()),
+    }
+}
