@@ -1,0 +1,4 @@
+pub mod HeadLemmas
+pub mod BankLemmas
+pub mod LengthLemmas
+pub mod RamdiskLemmas

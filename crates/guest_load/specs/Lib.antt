@@ -1,0 +1,5 @@
+pub mod Heads
+pub mod LoadPlaces
+pub mod Banks
+pub mod Started
+pub mod Sizes

@@ -1,0 +1,11 @@
+//! Where a guest's kernel, ramdisk and device tree lie in the first bank of its memory, and the tree that it is started with.
+#![tactic(auto)]
+
+mod bank;
+mod head;
+mod places;
+mod started;
+
+pub use bank::first_bank;
+pub use head::{ImageHead, NotImage, read_head};
+pub use places::{LoadPart, LoadPlan, NoRoom, Place, load_plan};
