@@ -2,3 +2,9 @@ pub mod HeadLemmas
 pub mod BankLemmas
 pub mod LengthLemmas
 pub mod RamdiskLemmas
+pub mod PartSteps
+pub mod LoadingLemmas
+pub mod OneOutcome
+pub mod Exact
+pub mod PlaceLemmas
+pub mod Loaded

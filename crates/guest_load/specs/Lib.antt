@@ -3,3 +3,9 @@ pub mod LoadPlaces
 pub mod Banks
 pub mod Started
 pub mod Sizes
+pub mod Lines
+pub mod Words
+pub mod Parts
+pub mod Job
+pub mod Laws
+pub mod Meant

@@ -3,9 +3,17 @@
 
 mod bank;
 mod head;
+pub mod laws;
+mod lines;
+mod loading;
+mod parts;
 mod places;
+mod prepare;
 mod started;
+mod top;
+mod words;
 
 pub use bank::first_bank;
 pub use head::{ImageHead, NotImage, read_head};
 pub use places::{LoadPart, LoadPlan, NoRoom, Place, load_plan};
+pub use top::run;
