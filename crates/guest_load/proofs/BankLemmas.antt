@@ -1,5 +1,5 @@
 -- The first memory of a tree, from node to node.
-use Rattle.std.proofs.Common.{◌≡◌, ◌∙◌, ◌≢◌, ap, sym, subst, refl, ℕ, zero, suc, ◌+◌, ◌-◌, ◌*◌, ◌/◌, ◌%◌, ◌<◌, ◌≤◌, ◌==◌, Bool, true, false, cond, is_some, List, [], ◌∷◌, ◌++◌, length, take, drop, map, flat_map, Option, Some, None, option_map, arith, add-one}
+use Rattle.std.proofs.Common.{◌≡◌, ◌∙◌, ◌≢◌, ap, sym, refl, ℕ, suc, ◌+◌, ◌-◌, ◌*◌, ◌/◌, ◌%◌, ◌<◌, ◌≤◌, ◌==◌, Bool, true, false, cond, is_some, List, [], ◌∷◌, ◌++◌, length, take, map, flat_map, Option, Some, None, option_map, arith, add-one}
 use Rattle.std.specs.Prelude.{IfSome, option_and_then}
 use Rattle.std.specs.Option.{ForSome}
 use Rattle.std.proofs.lemmas.Bool.{eq-eqb, ne_eqb}
@@ -7,9 +7,9 @@ use Rattle.std.proofs.Math.Nat.{div-eq-sub-div, div-eq_of_lt}
 use Rattle.dl_base.specs.declared.ranges.BaseSize.{BaseSize}
 use Rattle.fdt_tree.specs.Tree.{Bytes, Place}
 use Rattle.fdt_tree.specs.Document.{Document, IsNumbering, place_of, next_place, if_there}
-use Rattle.fdt_nodes.specs.Nodes.{Node, children, root_of, node_at}
+use Rattle.fdt_nodes.specs.Nodes.{Node, children, node_at}
 use Rattle.fdt_nodes.specs.Held.{node_of}
-use Rattle.fdt_nodes.specs.Entries.{pieces, region, region_cells, regions}
+use Rattle.fdt_nodes.specs.Entries.{pieces, region, regions}
 use Rattle.fdt_nodes.proofs.PlaceNodes.{siblings, from_place-first, first_child-siblings, next_sibling-siblings}
 use Rattle.fdt_nodes.proofs.WalkLemmas.{later_place}
 use Rattle.fdt_nodes.proofs.Turns.{IsLive, for_some}

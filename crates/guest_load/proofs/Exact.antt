@@ -1,6 +1,6 @@
 -- A run that ends as its words and files call for answers exactly that.
-use Rattle.std.proofs.Common.{◌≡◌, ◌∙◌, sym, subst, ℕ, List, Some, None, inl, inr}
-use Rattle.std.specs.Prelude.{◌⊎◌, Option, Result, Ok, Err, IfSome, IfErr}
+use Rattle.std.proofs.Common.{◌≡◌, sym, subst, ℕ, List, Some, None, inl, inr}
+use Rattle.std.specs.Prelude.{◌⊎◌, Option, Result, Err, IfSome, IfErr}
 use Rattle.dl_base.specs.Outside.{File, Rose}
 use Rattle.dl_base.specs.declared.status.Status.{Status}
 use Rattle.dl_base.specs.declared.status.Status.TheVariants as statuses

@@ -1,5 +1,6 @@
 pub mod HeadLemmas
 pub mod BankLemmas
+pub mod Sizes
 pub mod LengthLemmas
 pub mod RamdiskLemmas
 pub mod PartSteps
@@ -8,3 +9,4 @@ pub mod OneOutcome
 pub mod Exact
 pub mod PlaceLemmas
 pub mod Loaded
+mod Instances

@@ -2,10 +2,9 @@
 use Rattle.std.proofs.Common.{◌≤◌, ◌<◌, ℕ, List, Option, Some, None, inl, inr, arith, length}
 use Rattle.dl_base.specs.Outside.{File}
 use Rattle.dl_base.specs.declared.status.Status.TheVariants as statuses
-use Rattle.run_steps.specs.Endings.{Outcome}
 use Rattle.run_steps.specs.Laws.{IsDetermined}
 use Rattle.run_steps.specs.Steps.{IsRefusal, AfterReading, AfterSize}
-use Rattle.run_steps.specs.Trees.{FlatTree, AfterTreeFile}
+use Rattle.run_steps.specs.Trees.{AfterTreeFile}
 use Rattle.run_steps.proofs.Step.{hand_on}
 use Rattle.run_steps.proofs.OneOutcome.{Decides, both_decide, hand_on_decides, refusals_agree, writings_agree, on_option_decides, reading_decides, size_decides, tree_file_decides}
 use Rattle.guest_load.specs.declared.places.LoadPart.{LoadPart}
@@ -15,7 +14,7 @@ use Rattle.guest_load.specs.Lines.{no_bank_message, no_image_message}
 use Rattle.guest_load.specs.LoadPlaces.{first_past}
 use Rattle.guest_load.specs.Words.{Asked, asked}
 use Rattle.guest_load.specs.Parts.{Parts, kernel_limit, AfterBank, AfterGuest, AfterHead, AfterKernel, AfterRamdisk, AfterParts}
-use Rattle.guest_load.specs.Job.{plan_of, OnRoom, IsLoading, IsAskedJob, IsWordsJob}
+use Rattle.guest_load.specs.Job.{plan_of, OnRoom, IsLoading, IsWordsJob}
 use Rattle.guest_load.specs.Laws.{IsOneOutcome}
 
 apart : (a b : ℕ) → a ≤ b → b < a → ⊥

@@ -8,12 +8,11 @@ use Rattle.fdt_tree.specs.Tree as trees
 use Rattle.fdt_tree.specs.PathEdits.{set, set_property}
 use Rattle.fdt_tree.specs.declared.edit_fault.EditFault.{EditFault}
 use Rattle.fdt_tree.specs.declared.edit_fault.EditFault.TheVariants.{NoNode}
-use Rattle.fdt_tree.specs.declared.reserve.Reserve.{Reserve}
 use Rattle.fdt_write.specs.Flattened.{flattened}
 use Rattle.guest_load.specs.declared.places.Place.{Place}
 use Rattle.guest_load.specs.LoadPlaces.{end_of}
 use Rattle.guest_load.specs.Started.{with_chosen, with_number, with_ramdisk, started}
-use Rattle.guest_load.specs.Sizes.{zeroed, zeroed_properties, zeroed_in, zeroed_tree, IsOneLength}
+use Rattle.guest_load.proofs.Sizes.{zeroed, zeroed_properties, zeroed_in, zeroed_tree, IsOneLength}
 use Rattle.guest_load.proofs.LengthLemmas.{flattened-zeroed}
 
 first_named-zeroed : (wanted : Bytes) (ts : Trees) → first_named wanted (zeroed_in ts) ≡ option_map (λ (found : ℕ × Trees). (found.0, zeroed_in found.1)) (first_named wanted ts)

@@ -2,7 +2,6 @@ pub mod Heads
 pub mod LoadPlaces
 pub mod Banks
 pub mod Started
-pub mod Sizes
 pub mod Lines
 pub mod Words
 pub mod Parts

@@ -68,12 +68,7 @@ fn write_started(
 }
 
 /// The tree and the report as they are written.
-fn one_output(
-    alloc: Global,
-    out: &str,
-    bytes: Bytes,
-    plan: &LoadPlan,
-) -> Result<Build, AllocError>
+fn one_output(alloc: Global, out: &str, bytes: Bytes, plan: &LoadPlan) -> Result<Build, AllocError>
     ensures { IfOk result (λ build. IsWriting ((out.now, bytes) ∷ []) (report plan.now) (outcome_of build)) }
 {
     let report = make_report(alloc, plan)?;

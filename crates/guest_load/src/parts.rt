@@ -44,19 +44,12 @@ fn find_bank(alloc: Global, name: &str, tree: &TreeFile) -> Result<Place, Stop>
 {
     match first_bank(&tree.flat.tree) {
         Some(bank) => Ok(bank),
-        None => Err(Stop::Because(
-            Status::Refused,
-            make_file_message(alloc, name, b"NoBank")?,
-        )),
+        None => Err(Stop::Because(Status::Refused, make_file_message(alloc, name, b"NoBank")?)),
     }
 }
 
 /// The tree of a guest, and its bank.
-fn read_guest<F: Files>(
-    alloc: Global,
-    name: &str,
-    files: &mut F,
-) -> Result<(TreeFile, Place), Stop>
+fn read_guest<F: Files>(alloc: Global, name: &str, files: &mut F) -> Result<(TreeFile, Place), Stop>
     ensures tree { IfOk result (λ guest. IsTreeFile (F.held files.old) name.now (flat_tree guest.0)) }
     ensures bank { IfOk result (λ guest. first_bank guest.0.flat.tree.tree ≡ Some guest.1) }
     ensures low { IfOk result (λ guest. end_of guest.1 ≤ 2 ^ 40) }
@@ -76,19 +69,12 @@ fn find_head(alloc: Global, name: &str, bytes: &[u8]) -> Result<ImageHead, Stop>
 {
     match read_head(bytes) {
         Ok(head) => Ok(head),
-        Err(_) => Err(Stop::Because(
-            Status::Format,
-            make_file_message(alloc, name, b"NotImage")?,
-        )),
+        Err(_) => Err(Stop::Because(Status::Format, make_file_message(alloc, name, b"NotImage")?)),
     }
 }
 
 /// The head of a kernel, and the length of its file in bytes.
-fn read_kernel<F: Files>(
-    alloc: Global,
-    name: &str,
-    files: &mut F,
-) -> Result<(ImageHead, u64), Stop>
+fn read_kernel<F: Files>(alloc: Global, name: &str, files: &mut F) -> Result<(ImageHead, u64), Stop>
     ensures read { IfOk result (λ kernel. (file : _) × IsReading (F.held files.old) name.now kernel_limit (Ok file) × (image_head file ≡ Some kernel.0) × (kernel.1 ≡ length file)) }
     ensures stopped { IfErr result (λ stop. IsDue (AfterKernel (F.held files.old) name.now nothing) (F.faults files.old, F.absents files.old, F.overlong files.old) (F.faults files.new, F.absents files.new, F.overlong files.new) stop) }
     ensures grew { Grew (F.faults files.old, F.absents files.old, F.overlong files.old) (F.faults files.new, F.absents files.new, F.overlong files.new) }

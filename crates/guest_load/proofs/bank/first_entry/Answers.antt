@@ -1,4 +1,4 @@
-use Rattle.std.proofs.Common.{◌≡◌, ◌∙◌, ◌+◌, ◌*◌, ap, sym, Some, arith}
+use Rattle.std.proofs.Common.{◌∙◌, ap, sym, Some, arith}
 use Rattle.guest_load.proofs.BankLemmas.{first_entry}
 use Rattle.guest_load.proofs.bank.first_entry.Goals as goal
 

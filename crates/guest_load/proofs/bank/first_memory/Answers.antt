@@ -1,5 +1,5 @@
 use Rattle.std.proofs.Common.{◌≡◌, true, false, is_some}
-use Rattle.guest_load.proofs.BankLemmas.{all_left, live_here, first_found, passed, fewer, none_left}
+use Rattle.guest_load.proofs.BankLemmas.{all_left, live_here, first_found, passed, fewer}
 use Rattle.guest_load.proofs.bank.first_memory.Goals as goal
 
 pub loop-at-init : goal.loop-at-init

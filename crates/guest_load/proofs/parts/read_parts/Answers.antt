@@ -1,4 +1,4 @@
-use Rattle.std.proofs.Common.{rules, ◌≡◌, ◌∙◌, subst, List, Err}
+use Rattle.std.proofs.Common.{rules, ◌≡◌, subst, List, Err}
 use Rattle.std.specs.Prelude.{Option}
 use Rattle.std.specs.Option.{option_copied}
 use Rattle.dl_base.specs.Outside.{File}
