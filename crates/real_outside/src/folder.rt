@@ -1,0 +1,122 @@
+// Files and outputs of the file system. No contents are told; each kind of failure is counted.
+ghost use Rattle.std.specs.Prelude.{◌≤◌, IfOk, None, length};
+
+use dl_base::{Failed, FileError, Outs, SizeError};
+use std::alloc::Global;
+use std::fs;
+use std::io::{ErrorKind, Read, Write};
+use std::rt::Files;
+
+/// Files and outputs by their paths, with a count of each kind of failure, which stands still at its last value.
+#[derive(Drop)]
+pub struct Folder<'a, R> {
+    rt: &'a R,
+    faults: u64,
+    absents: u64,
+    overlong: u64,
+}
+
+impl<'a, R: Files> Folder<'a, R> {
+    /// The file system, with no failure yet.
+    pub fn new(rt: &'a R) -> Folder<'a, R> {
+        Folder {
+            rt,
+            faults: 0,
+            absents: 0,
+            overlong: 0,
+        }
+    }
+}
+
+/// Why a file could not be reached.
+fn missed(kind: ErrorKind) -> SizeError {
+    if kind == ErrorKind::NotFound {
+        SizeError::Absent
+    } else {
+        SizeError::Failed
+    }
+}
+
+/// All the bytes of a reader, at most `limit`.
+fn read_within<F: Read>(alloc: Global, file: &mut F, limit: u64) -> Result<Vec<u8>, FileError>
+    ensures { IfOk result (λ bytes. length bytes.items ≤ limit) }
+{
+    let mut bytes = Vec::new(alloc);
+    let mut piece = [0u8; 4096];
+    for _ in 0..u64::MAX {
+        let count = match file.read(&mut piece) {
+            Ok(count) => count,
+            Err(e) if e.kind() == ErrorKind::Interrupted => continue,
+            Err(_) => return Err(FileError::Failed),
+        };
+        if count == 0 {
+            return Ok(bytes);
+        }
+        if count as u64 > limit || bytes.len() as u64 > limit - count as u64 {
+            return Err(FileError::Longer);
+        }
+        bytes.extend_from_slice(&piece[..count])?;
+    }
+    Err(FileError::Failed)
+}
+
+impl<R: Files> dl_base::Files for Folder<'_, R> {
+    ghost held = { λ _. None };
+
+    ghost faults = { λ folder. folder.faults };
+
+    ghost absents = { λ folder. folder.absents };
+
+    ghost overlong = { λ folder. folder.overlong };
+
+    fn read(&mut self, alloc: Global, name: &str, limit: u64) -> Result<Vec<u8>, FileError> {
+        let result = match fs::open(self.rt, name) {
+            Ok(mut file) => read_within(alloc, &mut file, limit),
+            Err(e) => match missed(e.kind()) {
+                SizeError::Absent => Err(FileError::Absent),
+                SizeError::Failed => Err(FileError::Failed),
+            },
+        };
+        match result {
+            Err(FileError::Failed) => self.faults = self.faults.saturating_add(1),
+            Err(FileError::Absent) => self.absents = self.absents.saturating_add(1),
+            Err(FileError::Longer) => self.overlong = self.overlong.saturating_add(1),
+            _ => {}
+        }
+        result
+    }
+
+    fn size(&mut self, name: &str) -> Result<u64, SizeError> {
+        let result = match fs::metadata(self.rt, name) {
+            Ok(metadata) if metadata.is_file() => Ok(metadata.len()),
+            Ok(_) => Err(SizeError::Failed),
+            Err(e) => Err(missed(e.kind())),
+        };
+        match result {
+            Err(SizeError::Failed) => self.faults = self.faults.saturating_add(1),
+            Err(SizeError::Absent) => self.absents = self.absents.saturating_add(1),
+            Ok(_) => {}
+        }
+        result
+    }
+}
+
+impl<R: Files> Outs for Folder<'_, R> {
+    ghost written = { λ _. None };
+
+    ghost room = { λ _. None };
+
+    ghost faults = { λ folder. folder.faults };
+
+    fn write(&mut self, name: &str, bytes: &[u8]) -> Result<(), Failed> {
+        let written = match fs::create(self.rt, name) {
+            Ok(mut file) => file.write_all(bytes).is_ok(),
+            Err(_) => false,
+        };
+        if written {
+            return Ok(());
+        }
+        self.faults = self.faults.saturating_add(1);
+        Err(Failed)
+    }
+}

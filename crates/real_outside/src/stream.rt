@@ -1,0 +1,35 @@
+// Standard output and standard error. No bytes are told; failures are counted.
+ghost use Rattle.std.specs.Prelude.{None};
+
+use dl_base::{Failed, Sink};
+use std::io::Write;
+
+/// A writer with a count of its failures, which stands still at its last value.
+#[derive(Drop)]
+pub struct Stream<W> {
+    writer: W,
+    faults: u64,
+}
+
+impl<W: Write> Stream<W> {
+    /// A stream with no failure yet.
+    pub fn new(writer: W) -> Stream<W> {
+        Stream { writer, faults: 0 }
+    }
+}
+
+impl<W: Write> Sink for Stream<W> {
+    ghost taken = { λ _. None };
+
+    ghost room = { λ _. None };
+
+    ghost faults = { λ stream. stream.faults };
+
+    fn put(&mut self, bytes: &[u8]) -> Result<(), Failed> {
+        if self.writer.write_all(bytes).is_ok() && self.writer.flush().is_ok() {
+            return Ok(());
+        }
+        self.faults = self.faults.saturating_add(1);
+        Err(Failed)
+    }
+}
