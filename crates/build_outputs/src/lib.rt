@@ -10,3 +10,4 @@ mod report;
 mod written;
 
 pub use build::{Built, build_described};
+pub use names::make_image_name;
