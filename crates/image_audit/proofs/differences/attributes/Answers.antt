@@ -1,2 +1,0 @@
-use Rattle.image_audit.proofs.FirstDifference as parted
-use Rattle.image_audit.proofs.differences.attributes.Goals as goal
