@@ -19,7 +19,7 @@ use build_outputs::make_image_name;
 use dl_base::{Files, FrameRange, List, MapRange, Status};
 use domain_plan::GuestPlan;
 use run_steps::{Stop, make_file_message, read_file};
-use stage2_walk::{Counted, Image, ImageFault, read_image};
+use stage2_walk::{Counted, Image, read_image};
 use std::alloc::Global;
 
 // The longest image that is read, in bytes.
@@ -95,7 +95,6 @@ fn audit_file(
 {
     match read_image(alloc, bytes) {
         Ok(image) => audit_tables(alloc, name, ranges, unmapped, free, image),
-        Err(ImageFault::Memory) => Err(Stop::Memory),
         Err(fault) => {
             let text = make_image_fault_text(alloc, fault)?;
             Err(Stop::Because(

@@ -13,7 +13,7 @@ use crate::differences::{find_parting, planned_goal, walked_goal};
 use crate::frames::find_outside;
 use crate::texts::{make_difference_text, make_frame_text, make_tear_text};
 use dl_base::{Bytes, FrameRange, MapRange};
-use stage2_walk::{AuditFault, Counted, Image, Run, runs};
+use stage2_walk::{Counted, Image, Run, runs};
 use std::alloc::{AllocError, Global};
 
 /// The first finding in an image of a guest that is planned to have these ranges: where it is torn, where it goes elsewhere,
@@ -31,11 +31,11 @@ pub(crate) fn find_finding(
     requires merged { AreMerged ranges.now }
     requires unmapped { AreFrameRanges unmapped.now }
     requires free { AreFrameRanges free.now }
-    ensures { IfOk result (λ found. found ≡ finding (is_outside unmapped.now) (is_outside free.now) ranges.now words.old.image.pages words.old.image.root) }
+    ensures found { IfOk result (λ found. found ≡ finding (is_outside unmapped.now) (is_outside free.now) ranges.now words.old.image.pages words.old.image.root) }
+    ensures pages { words.new.image.pages ≡ words.old.image.pages }
 {
     match runs(alloc, words) {
         Ok(runs) => compare(alloc, words.image(), runs.as_slice(), ranges, unmapped, free),
-        Err(AuditFault::Memory) => Err(AllocError),
         Err(tear) => Ok(Some(make_tear_text(alloc, tear)?)),
     }
 }

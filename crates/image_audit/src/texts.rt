@@ -1,5 +1,5 @@
 //! How what an audit finds is said.
-ghost use Rattle.std.specs.Prelude.{◌≡◌, ◌++◌, ◌^◌, ◌<◌, IfOk, OnOk, decimal};
+ghost use Rattle.std.specs.Prelude.{◌≡◌, ◌≢◌, ◌++◌, ◌^◌, ◌<◌, IfOk, OnOk, decimal};
 ghost use Rattle.std.specs.Option.{ForSome};
 ghost use Rattle.image_audit.specs.Texts.{attributes_text, checked_line, difference_text, frame_text, goal_text, image_fault_text, tear_text};
 
@@ -31,9 +31,10 @@ pub(crate) fn make_frame_text(alloc: Global, name: &[u8], frame: u64) -> Result<
     Ok(text)
 }
 
-/// Why a file is no image, with the number of a page where it has one.
+/// Why a file is no image, with the number of a page where it has one; want of memory is no such reason.
 pub(crate) fn make_image_fault_text(alloc: Global, fault: ImageFault) -> Result<Bytes, AllocError>
-    ensures { IfOk result (λ text. text ≡ image_fault_text fault) }
+    ensures text { IfOk result (λ text. text ≡ image_fault_text fault) }
+    ensures reason { OnOk result (fault ≢ ImageFault.Memory) }
 {
     match fault {
         ImageFault::Magic => make_text(alloc, b"Magic"),
@@ -41,7 +42,7 @@ pub(crate) fn make_image_fault_text(alloc: Global, fault: ImageFault) -> Result<
         ImageFault::TooHigh(page) => make_page_text(alloc, b"TooHigh at ", page),
         ImageFault::FrameTwice(page) => make_page_text(alloc, b"FrameTwice at ", page),
         ImageFault::Root => make_text(alloc, b"Root"),
-        ImageFault::Memory => make_text(alloc, b"out of memory"),
+        ImageFault::Memory => Err(AllocError),
     }
 }
 
@@ -63,9 +64,10 @@ fn make_page_text(alloc: Global, before: &[u8], number: u64) -> Result<Bytes, Al
     Ok(text)
 }
 
-/// Where an image is torn.
+/// Where an image is torn; want of memory is no tear.
 pub(crate) fn make_tear_text(alloc: Global, tear: AuditFault) -> Result<Bytes, AllocError>
-    ensures { IfOk result (λ text. text ≡ tear_text tear) }
+    ensures text { IfOk result (λ text. text ≡ tear_text tear) }
+    ensures tear { OnOk result (tear ≢ AuditFault.Memory) }
 {
     match tear {
         AuditFault::Missing(frame) => make_frame_text(alloc, b"Missing", frame),
@@ -76,7 +78,7 @@ pub(crate) fn make_tear_text(alloc: Global, tear: AuditFault) -> Result<Bytes, A
             text.append_decimal(alloc, u64::from(index))?;
             Ok(text)
         }
-        AuditFault::Memory => make_text(alloc, b"out of memory"),
+        AuditFault::Memory => Err(AllocError),
     }
 }
 

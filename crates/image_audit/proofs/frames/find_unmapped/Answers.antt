@@ -9,7 +9,7 @@ use Rattle.image_audit.proofs.frames.find_unmapped.Goals as goal
 pub frames_left-requires-clause-low : goal.frames_left-requires-clause-low
 frames_left-requires-clause-low c =
     let all : c.loop-guest.taken.items ≡ flat_map hosts_of c.args.guests.now = c.loop-guest.invariant ∙ ap (flat_map hosts_of) (take_all _ c.args.guests.now c.loop-guest-test.false) in
-    All-same IsLow (flat_map hosts_of c.args.guests.now) c.loop-guest.taken.items (sym all) (plans_low c.args.guests.now c.requires)
+    All-same IsLow c.loop-guest.taken.items (flat_map hosts_of c.args.guests.now) all (plans_low c.args.guests.now c.requires)
 
 pub returns : goal.returns
 returns c =

@@ -1,0 +1,1 @@
+use Rattle.image_audit.proofs.audit.audit_tables.Goals as goal
