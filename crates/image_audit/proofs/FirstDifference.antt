@@ -2,7 +2,7 @@
 use Rattle.std.proofs.Common.{◌≡◌, ◌≢◌, ◌∙◌, refl, sym, ap, ap₂, subst, ℕ, ◌+◌, ◌-◌, ◌^◌, ◌<◌, ◌≤◌, ◌⊎◌, ◌&&◌, min, Bool, true, false, cond, eqb, List, [], ◌∷◌, map, Option, Some, None, arith, inl, inr}
 use Rattle.std.specs.Prelude.{not, find}
 use Rattle.std.specs.Option.{option_eq}
-use Rattle.std.proofs.lemmas.Bool.{cases_order, false≢true}
+use Rattle.std.proofs.lemmas.Bool.{cases_order}
 use Rattle.std.proofs.lemmas.Bool.Decides.{eqb_tells}
 use Rattle.std.proofs.lemmas.List.{map-id}
 use Rattle.std.proofs.lemmas.Option.{none-some, same_Some}
@@ -12,7 +12,7 @@ use Rattle.dl_base.specs.declared.ranges.MapRange.{MapRange}
 use Rattle.dl_base.proofs.NumberLists.{find-map-numbers, find-map-numbers-none}
 use Rattle.stage2_walk.specs.Pages.{Page}
 use Rattle.stage2_walk.specs.Runs.{PageMap, map_of, mapped_runs}
-use Rattle.stage2_walk.specs.Reads.{IsGap, IsMapped, Ends, HasRuns}
+use Rattle.stage2_walk.specs.Reads.{IsGap, HasRuns}
 use Rattle.stage2_walk.specs.declared.run.Run.{Run}
 use Rattle.stage2_walk.proofs.RunSteps.{HasRuns-within}
 use Rattle.image_audit.specs.Findings.{planned_map, are_one, differ_at, first_difference}
@@ -274,3 +274,10 @@ pub parting_low : (pages : List Page) (root : ℕ) (ranges : List MapRange) (pag
 parting_low pages root ranges page sorted merged is =
     (subst (Told (map_of pages root) (planned_map ranges) 0) is
     (parting_tells (map_of pages root) (planned_map ranges) 0 (mapped_runs pages root) ranges (its_runs (map_of pages root)) (planned_runs ranges sorted merged))).low
+
+-- where no page is, the maps agree
+pub agree_where_none : (pages : List Page) (root : ℕ) (ranges : List MapRange) → AreMapRanges ranges → AreMerged ranges → first_difference (map_of pages root) (planned_map ranges) ≡ None
+    → (page : ℕ) → page < 2 ^ 28 → map_of pages root page ≡ planned_map ranges page
+agree_where_none pages root ranges sorted merged none page low =
+    subst (Told (map_of pages root) (planned_map ranges) 0) (sym (first_parting pages root ranges sorted merged) ∙ none)
+    (parting_tells (map_of pages root) (planned_map ranges) 0 (mapped_runs pages root) ranges (its_runs (map_of pages root)) (planned_runs ranges sorted merged)) page (omega arith) low

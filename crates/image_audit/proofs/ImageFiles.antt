@@ -1,14 +1,14 @@
 -- What holds of an image that was read from a file.
-use Rattle.std.proofs.Common.{◌≡◌, ◌≢◌, ◌∙◌, refl, sym, ap, subst, ℕ, ◌+◌, ◌*◌, ◌^◌, ◌<◌, ◌≤◌, ◌⊎◌, ◌&&◌, ◌||◌, ◌%◌, Bool, true, false, cond, eqb, leb, ltb, List, [], ◌∷◌, length, Option, Some, None, arith, inl, inr}
-use Rattle.std.specs.Prelude.{Result, Ok, Err, IsSome, not, nat_lt}
-use Rattle.std.specs.List.{starts_with, prefix_len, position}
+use Rattle.std.proofs.Common.{◌≡◌, ◌≢◌, ◌∙◌, refl, sym, subst, ℕ, ◌+◌, ◌*◌, ◌^◌, ◌<◌, ◌≤◌, ◌⊎◌, ◌&&◌, ◌||◌, ◌%◌, Bool, true, false, cond, eqb, leb, ltb, List, [], ◌∷◌, length, Option, Some, None, arith, inl, inr}
+use Rattle.std.specs.Prelude.{Result, Ok, Err, IsSome, not}
+use Rattle.std.specs.List.{starts_with, prefix_len}
 use Rattle.std.proofs.lemmas.Bool.{false≢true}
 use Rattle.std.proofs.lemmas.Bool.Decides.{nat_tests, eqb_tells}
 use Rattle.dl_base.specs.Consecutive.{is_in}
 use Rattle.dl_base.proofs.RegionLemmas.{both_true}
 use Rattle.frame_alloc.proofs.FreeFrames.{is_in_nil, is_in_cons}
 use Rattle.stage2_walk.specs.Pages.{Page, frames_of, page_of, number_at, pages_at}
-use Rattle.stage2_walk.specs.Files.{magic, image_of, has_root, first_high, first_repeat, checked, checked_pages, checked_repeat, checked_root}
+use Rattle.stage2_walk.specs.Files.{magic, image_of, has_root, first_high, first_repeat, checked, checked_pages, checked_repeat}
 use Rattle.stage2_walk.specs.declared.image_fault.ImageFault.{ImageFault}
 use Rattle.stage2_walk.specs.declared.image_fault.ImageFault.TheVariants.{Magic, Length, TooHigh, FrameTwice, Root}
 use Rattle.stage2_walk.proofs.ReadLemmas.{has_frame}

@@ -2,15 +2,15 @@
 use Rattle.std.proofs.Common.{◌≡◌, ◌≢◌, ◌∙◌, refl, sym, ap, subst, ℕ, zero, suc, ◌+◌, ◌-◌, ◌^◌, ◌<◌, ◌≤◌, ◌⊎◌, true, false, List, [], ◌∷◌, map, Option, Some, None, arith, inl, inr}
 use Rattle.std.proofs.lemmas.Bool.{cases_order}
 use Rattle.std.proofs.lemmas.Option.{none-some, same_Some}
-use Rattle.dl_base.specs.Maps.{attributes, target_of, holds_page, AreSortedFrom, AreMerged, AreMergedAfter, RunsOn}
+use Rattle.dl_base.specs.Maps.{attributes, holds_page, AreSortedFrom, AreMerged, AreMergedAfter, RunsOn}
 use Rattle.dl_base.specs.declared.ranges.Kind.{Kind}
 use Rattle.dl_base.specs.declared.ranges.Kind.TheVariants.{Ram, Device, Shared}
 use Rattle.dl_base.specs.declared.ranges.MapRange.{MapRange}
 use Rattle.dl_base.proofs.RunLemmas.{holds_tells}
 use Rattle.stage2_walk.specs.Runs.{PageMap, runs_of}
-use Rattle.stage2_walk.specs.Reads.{with_leaf, IsGap, IsMapped, Ends, HasRuns}
+use Rattle.stage2_walk.specs.Reads.{with_leaf, IsMapped, HasRuns}
 use Rattle.stage2_walk.specs.declared.run.Run.{Run}
-use Rattle.stage2_walk.proofs.RunSteps.{HasRuns-within, HasRuns-gap, HasRuns-leaf}
+use Rattle.stage2_walk.proofs.RunSteps.{HasRuns-gap, HasRuns-leaf}
 use Rattle.stage2_walk.proofs.RunsWhole.{runs_of-HasRuns}
 use Rattle.image_audit.specs.Findings.{planned_map}
 use Rattle.image_audit.specs.Partings.{planned_run}

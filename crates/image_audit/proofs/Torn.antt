@@ -1,5 +1,5 @@
 -- What is found in an image that is torn, and in one that is not.
-use Rattle.std.proofs.Common.{◌≡◌, ◌≢◌, ◌∙◌, refl, sym, ap, ap₂, ℕ, Bool, List, Option, Some, None}
+use Rattle.std.proofs.Common.{◌≡◌, ◌∙◌, sym, ap, ap₂, ℕ, Bool, List, Option, Some, None}
 use Rattle.std.specs.Prelude.{Result, Ok, Err, IfOk, option_map}
 use Rattle.std.specs.Option.{option_or}
 use Rattle.dl_base.specs.declared.ranges.MapRange.{MapRange}

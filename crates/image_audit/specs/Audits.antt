@@ -78,7 +78,7 @@ AreAudited told folder plans before (plan ∷ later) images =
     (image : List ℕ) × IsAudited told folder (is_mapped plans) (has_table before) plan image × AreAudited told folder plans (before ++ image ∷ []) later images
 
 -- Nothing is found in the images of guests, whoever made them.
-pub record IsAuditOf (told : Option (List File)) (folder : Option (List ℕ)) (plans : List GuestPlan) : Type 0 where
+pub record FindsNothing (told : Option (List File)) (folder : Option (List ℕ)) (plans : List GuestPlan) : Type 0 where
   pub images : List (List ℕ)
   pub audited : AreAudited told folder plans [] plans images
   -- walking the image of a guest translates an address exactly where its plan maps it

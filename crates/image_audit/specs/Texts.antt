@@ -1,5 +1,5 @@
 -- How what an audit finds is said.
-use Rattle.std.specs.Prelude.{ℕ, ◌*◌, ◌==◌, ◌++◌, if◌then◌else◌, List, codes, decimal, Option, Some, None}
+use Rattle.std.specs.Prelude.{ℕ, ◌==◌, ◌++◌, if◌then◌else◌, List, codes, decimal, Option, Some, None}
 use Rattle.dl_base.specs.Maps.{attributes}
 use Rattle.dl_base.specs.NumberTexts.{hexadecimal}
 use Rattle.dl_base.specs.declared.ranges.Kind.TheVariants.{Ram, Device, Shared}

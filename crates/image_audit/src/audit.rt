@@ -8,7 +8,7 @@ ghost use Rattle.stage2_walk.specs.Pages.{frames_of, page_of};
 ghost use Rattle.guest_images.specs.Walks.{tables_in};
 ghost use Rattle.run_steps.specs.Steps.{nothing};
 ghost use Rattle.run_steps.specs.Stops.{Grew, IsDue, IsOwnDue};
-ghost use Rattle.image_audit.specs.Audits.{AfterAudit, AfterAudits, AfterImage, IsAudited, IsAuditOf, IsSound, UnlessFound};
+ghost use Rattle.image_audit.specs.Audits.{AfterAudit, AfterAudits, AfterImage, IsAudited, FindsNothing, IsSound, UnlessFound};
 ghost use Rattle.image_audit.specs.Findings.{finding};
 ghost use Rattle.image_audit.specs.Rests.{is_outside, IsLeft};
 
@@ -37,7 +37,7 @@ pub fn audit_images<F: Files>(
     requires sorted { All (λ guest. AreMapRanges guest.ranges) guests.now }
     requires merged { All (λ guest. AreMerged guest.ranges) guests.now }
     // Nothing is found in any image, and so they isolate the guests as the plan does.
-    ensures audited { OnOk result (IsAuditOf (F.held files.old) (option_copied folder.entry) guests.now) }
+    ensures audited { OnOk result (FindsNothing (F.held files.old) (option_copied folder.entry) guests.now) }
     ensures stopped { IfErr result (λ stop. IsDue (AfterAudits (F.held files.old) (option_copied folder.entry) guests.now nothing) (F.faults files.old, F.absents files.old, F.overlong files.old) (F.faults files.new, F.absents files.new, F.overlong files.new) stop) }
     ensures grew { Grew (F.faults files.old, F.absents files.old, F.overlong files.old) (F.faults files.new, F.absents files.new, F.overlong files.new) }
     ensures kept { F.held files.new ≡ F.held files.old }
@@ -45,7 +45,14 @@ pub fn audit_images<F: Files>(
     let unmapped = find_unmapped(alloc, guests)?;
     let mut free = all_frames(alloc)?;
     for guest in guests {
-        match audit_image(alloc, guest, folder, unmapped.as_slice(), free.as_slice(), files) {
+        match audit_image(
+            alloc,
+            guest,
+            folder,
+            unmapped.as_slice(),
+            free.as_slice(),
+            files,
+        ) {
             Ok(left) => free = left,
             Err(stop) => return Err(stop),
         }
@@ -74,7 +81,14 @@ fn audit_image<F: Files>(
 {
     let name = make_image_name(alloc, folder, guest.number)?;
     let bytes = read_file(alloc, name.as_str(), IMAGE_LIMIT, files)?;
-    audit_file(alloc, name.as_str(), guest.ranges.as_slice(), unmapped, free, &bytes)
+    audit_file(
+        alloc,
+        name.as_str(),
+        guest.ranges.as_slice(),
+        unmapped,
+        free,
+        &bytes,
+    )
 }
 
 /// The same of the bytes of the image's file.

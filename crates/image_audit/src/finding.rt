@@ -35,7 +35,14 @@ pub(crate) fn find_finding(
     ensures pages { words.new.image.pages ≡ words.old.image.pages }
 {
     match runs(alloc, words) {
-        Ok(runs) => compare(alloc, words.image(), runs.as_slice(), ranges, unmapped, free),
+        Ok(runs) => compare(
+            alloc,
+            words.image(),
+            runs.as_slice(),
+            ranges,
+            unmapped,
+            free,
+        ),
         Err(tear) => Ok(Some(make_tear_text(alloc, tear)?)),
     }
 }

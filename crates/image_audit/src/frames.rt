@@ -82,7 +82,13 @@ pub(crate) fn find_outside(image: &Image, ranges: &[FrameRange]) -> Option<u64>
 {
     for index in 0..image.page_count() {
         let frame = image.frame_at(index);
-        if !lies_in(ranges, FrameRange { first: frame, count: 1 }) {
+        if !lies_in(
+            ranges,
+            FrameRange {
+                first: frame,
+                count: 1,
+            },
+        ) {
             return Some(frame);
         }
     }

@@ -105,11 +105,7 @@ pub(crate) fn make_difference_text(
 }
 
 /// Adds where a page goes: `none`, or the address of a frame with its attributes.
-fn append_goal(
-    alloc: Global,
-    text: &mut Bytes,
-    goal: Option<(u64, u64)>,
-) -> Result<(), AllocError>
+fn append_goal(alloc: Global, text: &mut Bytes, goal: Option<(u64, u64)>) -> Result<(), AllocError>
     requires { ForSome goal (λ goal. goal.0 < 2 ^ 52) }
     ensures { OnOk result (text.new ≡ text.old ++ goal_text goal) }
 {

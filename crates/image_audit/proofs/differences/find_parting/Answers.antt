@@ -1,4 +1,3 @@
-use Rattle.std.proofs.Common.{arith}
 use Rattle.dl_base.specs.declared.ranges.Kind.TheVariants.{Ram}
 use Rattle.image_audit.proofs.PlannedRanges.{ends_at}
 use Rattle.image_audit.proofs.differences.find_parting.Goals as goal

@@ -1,8 +1,5 @@
-use Rattle.std.proofs.Common.{◌≡◌, ◌∙◌, ap, ℕ, List, Some}
-use Rattle.std.specs.Prelude.{Option}
+use Rattle.std.proofs.Common.{◌∙◌, ap, ℕ, List, Some}
 use Rattle.stage2_walk.specs.TableImages.{TableImage}
-use Rattle.stage2_walk.specs.declared.audit_fault.AuditFault.{AuditFault}
-use Rattle.stage2_walk.specs.declared.audit_fault.AuditFault.TheVariants.{Memory}
 use Rattle.image_audit.specs.Rests.{is_outside}
 use Rattle.image_audit.proofs.Torn.{torn, whole}
 use Rattle.image_audit.proofs.finding.find_finding.Goals as goal

@@ -1,8 +1,6 @@
-use Rattle.std.proofs.Common.{◌≡◌, ◌∙◌, sym, ap, flat_map, take, List, All, arith}
+use Rattle.std.proofs.Common.{◌≡◌, ◌∙◌, ap, flat_map}
 use Rattle.std.proofs.lemmas.List.{take_all}
 use Rattle.std.proofs.lemmas.List.Elements.{All-same}
-use Rattle.dl_base.specs.declared.ranges.FrameRange.{FrameRange}
-use Rattle.domain_plan.specs.declared.planned.GuestPlan.{GuestPlan}
 use Rattle.image_audit.proofs.LeftFrames.{IsLow, hosts_of, plans_low, unmapped_left, both_ok}
 use Rattle.image_audit.proofs.frames.find_unmapped.Goals as goal
 

@@ -1,1 +1,0 @@
-use Rattle.image_audit.proofs.audit.audit_tables.Goals as goal
