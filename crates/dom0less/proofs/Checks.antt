@@ -9,7 +9,7 @@ use Rattle.guest_images.specs.Walks.{ArePlannedApart}
 use Rattle.image_audit.specs.Audits.{AfterAudits, FindsNothing}
 use Rattle.image_audit.specs.Texts.{checked_line}
 use Rattle.image_audit.proofs.AuditSteps.{audits_step}
-use Rattle.run_steps.specs.Endings.{Outcome, Builds}
+use Rattle.run_steps.specs.Endings.{Outcome, Refuses, Builds}
 use Rattle.run_steps.specs.Outputs.{files_of, report_of, outcome_of}
 use Rattle.run_steps.specs.Steps.{OnResult, nothing}
 use Rattle.run_steps.specs.Stops.{Counts, Grew, IsDue, IsOwnDue}
@@ -27,6 +27,14 @@ use Rattle.build_sources.proofs.SourceSteps.{source_step, partials_step}
 use Rattle.build_outputs.specs.Builds.{IsItemRefusal}
 use Rattle.dom0less.specs.Checks.{IsCheckedWriting, IsPlanCheck, IsDescribedCheck, IsStandCheck, IsCheckJob}
 use Rattle.dom0less.specs.Headline.{IsPlanAudited, IsDescribedAudit}
+
+-- the report of a build that puts this
+said_in : Outcome → List ℕ
+said_in (Builds outputs report) = report
+said_in (Refuses status message) = []
+
+pub put_report : (build : Build) (text : List ℕ) → outcome_of build ≡ Builds [] text → report_of build ≡ text
+put_report build text is = ap said_in is
 
 -- the plan of what is described is a step
 plan_step : (description : Description) → IsStep (λ plan. plan_of description ≡ Ok plan) (λ next outcome. OnResult IsItemRefusal next (plan_of description) outcome)
