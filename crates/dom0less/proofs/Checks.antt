@@ -29,7 +29,7 @@ use Rattle.dom0less.specs.Checks.{IsCheckedWriting, IsPlanCheck, IsDescribedChec
 use Rattle.dom0less.specs.Headline.{IsPlanAudited, IsDescribedAudit}
 
 -- the report of a build that puts this
-said_in : Outcome → List ℕ
+abbrev said_in : Outcome → List ℕ
 said_in (Builds outputs report) = report
 said_in (Refuses status message) = []
 
