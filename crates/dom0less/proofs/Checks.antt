@@ -1,5 +1,5 @@
 -- An audit of what its files describe, step by step.
-use Rattle.std.proofs.Common.{◌≡◌, refl, sym, ap, subst, ℕ, List, [], ◌∷◌, length, inl, inr}
+use Rattle.std.proofs.Common.{◌≡◌, refl, sym, ap, subst, ℕ, List, [], length}
 use Rattle.std.specs.Prelude.{Option, Result, Ok, Err, IfOk, IfErr}
 use Rattle.dl_base.specs.Outside.{File}
 use Rattle.domain_plan.specs.Refusals.{Refusal}
@@ -10,7 +10,7 @@ use Rattle.image_audit.specs.Audits.{AfterAudits, FindsNothing}
 use Rattle.image_audit.specs.Texts.{checked_line}
 use Rattle.image_audit.proofs.AuditSteps.{audits_step}
 use Rattle.run_steps.specs.Endings.{Outcome, Refuses, Builds}
-use Rattle.run_steps.specs.Outputs.{files_of, report_of, outcome_of}
+use Rattle.run_steps.specs.Outputs.{report_of, outcome_of}
 use Rattle.run_steps.specs.Steps.{OnResult, nothing}
 use Rattle.run_steps.specs.Stops.{Counts, Grew, IsDue, IsOwnDue}
 use Rattle.run_steps.specs.declared.output.Build.{Build}

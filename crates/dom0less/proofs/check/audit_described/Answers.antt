@@ -1,9 +1,5 @@
-use Rattle.std.proofs.Common.{◌≡◌, ◌∙◌, sym, ap, subst, length}
 use Rattle.std.specs.Option.{option_copied}
-use Rattle.image_audit.specs.Audits.{FindsNothing}
-use Rattle.image_audit.specs.Texts.{checked_line}
-use Rattle.run_steps.specs.Endings.{Builds}
-use Rattle.run_steps.specs.Outputs.{outcome_of, report_of}
+use Rattle.run_steps.specs.Outputs.{report_of}
 use Rattle.tree_plan.specs.Descriptions.{description_of}
 use Rattle.tree_plan.specs.TreePlans.{TreePlan}
 use Rattle.dom0less.proofs.Checks.{audit_due, checked, audited, put_report}
