@@ -12,7 +12,7 @@ use std::alloc::{AllocError, Global};
 pub(crate) const HOST: &str = "host.dtb";
 
 /// The name of the image of the guest with this number, in a folder where one is given.
-pub(crate) fn make_image_name(
+pub fn make_image_name(
     alloc: Global,
     folder: Option<&str>,
     number: u64,

@@ -51,7 +51,7 @@ pub fn append_generated(
 
 /// A kind as it is shown.
 #[tactic(auto, unfolding(crate::specs::Lines::kind_text))]
-fn kind_text(kind: Kind) -> &'static [u8]
+pub fn kind_text(kind: Kind) -> &'static [u8]
     ensures { result.now ≡ kind_text kind }
 {
     match kind {

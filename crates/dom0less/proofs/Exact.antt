@@ -41,6 +41,17 @@ module _ (words : List (List ℕ)) (told : Option (List File)) (failed : Type 0)
       by_told None calls = tt
       by_told (Some held) calls = λ outcome job. inr (inr (builds_answers outputs report status outcome done (one_outcome words held (Builds outputs report) outcome calls job)))
 
+  -- where it writes, its outputs and its report are those that the told files call for
+  pub same_build : (outputs : List File) (report : List ℕ) (Taken : List File → List ℕ → Type 0) → CallsFor words told (Builds outputs report) → Taken outputs report
+      → IfSome told (λ held. (o : List File) (r : List ℕ) → IsJob words held (Builds o r) → Taken o r)
+  same_build outputs report Taken calls taken = by_told told calls
+    where
+      by_told : (told : Option (List File)) → CallsFor words told (Builds outputs report) → IfSome told (λ held. (o : List File) (r : List ℕ) → IsJob words held (Builds o r) → Taken o r)
+      by_told None calls = tt
+      by_told (Some held) calls = λ o r job.
+          let agree = one_outcome words held (Builds outputs report) (Builds o r) calls job in
+          subst (λ (files : List File). Taken files r) agree.0 (subst (Taken outputs) agree.1 taken)
+
   -- so does one that stops before its first write
   read_failed : failed → (status : Status) → Exact status
   read_failed fell status = by_told told

@@ -11,6 +11,7 @@ use Rattle.build_sources.specs.Sources.{Stand, folder_of}
 use Rattle.build_sources.proofs.OneOutcome.{made_decides, source_decides, partials_decide}
 use Rattle.build_outputs.specs.Builds.{IsItemRefusal, built_of}
 use Rattle.dom0less.specs.Builds.{IsPlanWriting, IsDescribedJob, IsStandJob}
+use Rattle.dom0less.specs.Generated.{generated_description, IsTotalsWriting}
 use Rattle.dom0less.specs.Job.{IsScriptWriting, IsAskedJob, IsSettingsJob}
 use Rattle.dom0less.specs.Laws.{IsOneOutcome}
 
@@ -27,7 +28,8 @@ module _ (held : List File) where
   asked_agree (Build source folder) = source_decides held source folder (IsStandJob (Some held) source folder) (stand_agree source folder)
   asked_agree (Script ask) = made_decides held ask.config ask.files ask.kind (IsScriptWriting ask.outputs) (λ made. writings_agree _ _)
   asked_agree (Show tree) = tree_file_decides held tree _ (λ read. writings_agree _ _)
-  asked_agree (Generate number) = never_agrees
+  asked_agree (Generate number) =
+      on_result_decides IsItemRefusal (λ fault. refusals_agree _ _) (built_of 0 (generated_description number)) (IsTotalsWriting number) (λ plan. writings_agree _ _)
 
   settings_agree : (asked : Option Asked) → IsDetermined (IsSettingsJob (Some held) asked)
   settings_agree None = never_agrees

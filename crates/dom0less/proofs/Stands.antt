@@ -18,6 +18,7 @@ use Rattle.build_sources.specs.Partials.{AfterPartials, Describes}
 use Rattle.build_sources.proofs.SourceSteps.{source_step, partials_step}
 use Rattle.build_outputs.specs.Builds.{IsItemRefusal, AfterItems, built_of}
 use Rattle.build_outputs.specs.Isolation.{IsBuildOf}
+use Rattle.build_outputs.specs.declared.totals.Totals.{Totals}
 use Rattle.dom0less.specs.Builds.{IsPlanWriting, IsDescribedJob, IsStandJob, IsBuildJob}
 use Rattle.dom0less.specs.Headline.{IsStandBuild, IsDescribedBuild}
 
@@ -27,17 +28,17 @@ items_step boot description = on_result_step IsItemRefusal (λ fault outputs rep
 
 module _ (folder : Option Word) (stand : Stand) (description : Description) where
   -- the files and the report of a build are those that the plan calls for
-  pub written : (files : List File) (lines : List ℕ) → IsBuildOf stand.boot description folder files lines
+  pub written : (files : List File) (lines : List ℕ) (totals : Totals) → IsBuildOf stand.boot description folder files lines totals
       → IsDescribedJob folder stand description (Builds (stand.before ++ files) (stand.lines ++ lines))
-  written files lines built =
+  written files lines totals built =
       (items_step stand.boot description).gives built.plan built.planned (IsPlanWriting folder stand description) (Builds (stand.before ++ files) (stand.lines ++ lines))
       (ap (λ (more : List File). stand.before ++ more) built.written, ap (λ (more : List ℕ). stand.lines ++ more) built.reported)
 
-  pub described : (files : List File) (lines : List ℕ) (outputs : List File) (report : List ℕ) → IsBuildOf stand.boot description folder files lines
+  pub described : (files : List File) (lines : List ℕ) (totals : Totals) (outputs : List File) (report : List ℕ) → IsBuildOf stand.boot description folder files lines totals
       → outputs ≡ stand.before ++ files → report ≡ stand.lines ++ lines → IsDescribedJob folder stand description (Builds outputs report)
-  described files lines outputs report built of_outputs of_report =
+  described files lines totals outputs report built of_outputs of_report =
       subst (λ (o : List File). IsDescribedJob folder stand description (Builds o report)) (sym of_outputs)
-      (subst (λ (r : List ℕ). IsDescribedJob folder stand description (Builds (stand.before ++ files) r)) (sym of_report) (written files lines built))
+      (subst (λ (r : List ℕ). IsDescribedJob folder stand description (Builds (stand.before ++ files) r)) (sym of_report) (written files lines totals built))
 
   -- what is refused is refused whatever follows
   pub items_due : (stop : Stop) → IsOwnDue (AfterItems stand.boot description nothing) stop → IsOwnDue (IsDescribedJob folder stand description) stop

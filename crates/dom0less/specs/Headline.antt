@@ -16,14 +16,16 @@ use Rattle.build_sources.specs.Edited.{HasEditedTree}
 use Rattle.build_sources.specs.Partials.{Describes}
 use Rattle.build_outputs.specs.Builds.{built_of}
 use Rattle.build_outputs.specs.Isolation.{IsBuildOf}
+use Rattle.build_outputs.specs.declared.totals.Totals.{Totals}
 
 -- Nothing of what is described is refused. These outputs are the files of its guests behind those that come before, and this report the lines about them behind those that come before.
 pub record IsStandBuild (folder : Option Word) (stand : Stand) (description : Description) (outputs : List File) (report : List ℕ) : Type 0 where
   pub files : List File
   pub lines : List ℕ
+  pub totals : Totals
   pub written : outputs ≡ stand.before ++ files
   pub reported : report ≡ stand.lines ++ lines
-  pub built : IsBuildOf stand.boot description folder files lines
+  pub built : IsBuildOf stand.boot description folder files lines totals
 
 -- The files are read and describe guests; these outputs and this report are those of their build.
 pub record IsDescribedBuild (told : Option (List File)) (source : Source) (folder : Option Word) (outputs : List File) (report : List ℕ) : Type 0 where

@@ -54,7 +54,11 @@ fn make_build(
     ensures promised { IfOk result (λ build. IsStandBuild (option_copied folder.entry) (meant_stand stand) (description_of stand.tree stand.reserves stand.loads partials.now) (files_of build) (report_of build)) }
     ensures stopped { IfErr result (λ stop. IsOwnDue (IsDescribedJob (option_copied folder.entry) (meant_stand stand) (description_of stand.tree stand.reserves stand.loads partials.now)) stop) }
 {
-    let Built { outputs, report } = build_described(
+    let Built {
+        outputs,
+        report,
+        ..
+    } = build_described(
         alloc,
         &stand.tree,
         stand.reserves.as_slice(),

@@ -1,5 +1,5 @@
 // What a run makes before its first write.
-ghost use Rattle.std.specs.Prelude.{◌≡◌, IfErr, IfOk};
+ghost use Rattle.std.specs.Prelude.{◌≡◌, ◌≤◌, IfErr, IfOk};
 ghost use Rattle.dom0less_words.specs.Meant.{meant};
 ghost use Rattle.run_steps.specs.Outputs.{files_of, outcome_of, report_of};
 ghost use Rattle.run_steps.specs.Stops.{IsDue};
@@ -21,6 +21,7 @@ pub(crate) fn prepare<F: Files>(
     asked: &Asked<'_>,
     files: &mut F,
 ) -> Result<Build, Stop>
+    requires { (number : _) → asked.now ≡ Asked.Generate number → number ≤ 1000000 }
     ensures built { IfOk result (λ build. IsAskedJob (F.held files.old) (meant asked.now) (outcome_of build)) }
     ensures promised { IfOk result (λ build. IsPromised (F.held files.old) (meant asked.now) (files_of build) (report_of build)) }
     ensures stopped { IfErr result (λ stop. IsDue (IsAskedJob (F.held files.old) (meant asked.now)) (F.faults files.old, F.absents files.old, F.overlong files.old) (F.faults files.new, F.absents files.new, F.overlong files.new) stop) }

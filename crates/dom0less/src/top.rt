@@ -117,6 +117,11 @@ pub fn run<F: Files, O: Outs, S: Sink, E: Sink>(
     // Where the files tell what they hold and no read failed, the answer is what they call for, or want of memory.
     ensures exact { IfSome (F.held files.old) (λ held. (outcome : _) → IsJob (map string_bytes words.now) held outcome → AnswersUnless (Rose (F.faults files.old) (F.faults files.new)) result outcome) }
 
+    // Where the files tell what they hold and a build is called for, Built says that just its outputs and its report were taken.
+    ensures complete { IfSome (F.held files.old) (λ held. (outputs : _) → (report : _) → IsJob (map string_bytes words.now) held (Builds outputs report) → result ≡ Status.Built →
+        (O.written outs.new ≡ and_files (O.written outs.old) outputs)
+        × (S.taken out.new ≡ and_bytes (S.taken out.old) report)) }
+
     // Every other answer leaves the outputs and `out` as they were.
     ensures outs_kept { result ≢ Status.Built → result ≢ Status.Write → outs.new ≡ outs.old }
     ensures out_kept { result ≢ Status.Built → result ≢ Status.Write → out.new ≡ out.old }

@@ -1,6 +1,6 @@
 // The trusted edge: what the adapters do at the real file system.
-use crate::folder::Folder;
 use dl_base::{FileError, Files, Outs, SizeError};
+use real_outside::Folder;
 use std::fs;
 use std::test::Fail;
 

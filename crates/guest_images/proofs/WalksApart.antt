@@ -47,11 +47,11 @@ mapped_to address (Some target) frame e =
     (target, refl, sym (frame_in target.frame address) ∙ ap (λ (o : Option ℕ). unwrap_or o 0) e, refl)
 
 module _ (guests : List GuestPlan) (images : List (List ℕ)) (all : AllWalk guests images) where
-  abbrev Reached : ℕ → ℕ → ℕ → Type 0
+  abbrev pub Reached : ℕ → ℕ → ℕ → Type 0
   Reached n address frame =
       (target : Target) × (target_in guests n (address / 2 ^ 12) ≡ Some target) × (target.frame ≡ frame) × (attributes_of images n address ≡ Some (attributes target.kind))
 
-  reached_from : (n address frame : ℕ) → address < 2 ^ 40 → frame_of images n address ≡ Some frame → Reached n address frame
+  pub reached_from : (n address frame : ℕ) → address < 2 ^ 40 → frame_of images n address ≡ Some frame → Reached n address frame
   reached_from n address frame low e =
       let same = walk_at guests images all n address low in
       let found = mapped_to address (target_in guests n (address / 2 ^ 12)) frame (sym (ap (option_map (λ (place : ℕ × ℕ). place.0 / 2 ^ 12)) same) ∙ e) in
@@ -66,7 +66,7 @@ module _ (guests : List GuestPlan) (images : List (List ℕ)) (all : AllWalk gue
         subst (λ (f : ℕ). IsTrue (common one other f)) a.2 (apart.meet one other _ _ a.0 b.0 differ a.1 b.1 (a.2 ∙ sym b.2)).2
 
     -- and both have the attributes of shared memory there
-    images_share : (one other here there frame : ℕ) → one ≢ other → here < 2 ^ 40 → there < 2 ^ 40 → frame_of images one here ≡ Some frame → frame_of images other there ≡ Some frame
+    pub images_share : (one other here there frame : ℕ) → one ≢ other → here < 2 ^ 40 → there < 2 ^ 40 → frame_of images one here ≡ Some frame → frame_of images other there ≡ Some frame
         → (attributes_of images one here ≡ Some (attributes Shared)) × (attributes_of images other there ≡ Some (attributes Shared))
     images_share one other here there frame differ low_here low_there e f =
         let a = reached_from one here frame low_here e in

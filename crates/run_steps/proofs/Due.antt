@@ -32,7 +32,7 @@ module _ (job other : Outcome → Type 0) (implied : (outcome : Outcome) → job
     cause_later statuses.Memory message cause = elim cause [ ]
     cause_later statuses.Words message cause = elim cause [ ]
     cause_later statuses.Write message cause = elim cause [ ]
-    cause_later statuses.Differs message cause = elim cause [ ]
+    cause_later statuses.Differs message cause = implied _ cause
 
     pub due_later : (stop : Stop) → IsDue job mid new stop → IsDue other old new stop
     due_later Memory due = tt
@@ -47,7 +47,7 @@ module _ (job other : Outcome → Type 0) (implied : (outcome : Outcome) → job
   own_cause statuses.Read message cause = elim cause [ ]
   own_cause statuses.Write message cause = elim cause [ ]
   own_cause statuses.Longer message cause = elim cause [ ]
-  own_cause statuses.Differs message cause = elim cause [ ]
+  own_cause statuses.Differs message cause = implied _ cause
 
   -- a step that reaches no file stops for the same as what follows from it
   pub own_due : (stop : Stop) → IsOwnDue job stop → IsOwnDue other stop
@@ -65,7 +65,7 @@ module _ (job other : Outcome → Type 0) (implied : (outcome : Outcome) → job
     cause_anyway statuses.Read message cause = elim cause [ ]
     cause_anyway statuses.Write message cause = elim cause [ ]
     cause_anyway statuses.Longer message cause = elim cause [ ]
-    cause_anyway statuses.Differs message cause = elim cause [ ]
+    cause_anyway statuses.Differs message cause = implied _ cause
 
     pub due_anyway : (stop : Stop) → IsOwnDue job stop → IsDue other old new stop
     due_anyway Memory due = tt

@@ -36,7 +36,7 @@ refusals_agree status message (Refuses s l) (Builds o r) p q = elim q [ ]
 refusals_agree status message (Builds o r) b p q = elim p [ ]
 
 pub writings_agree : (outputs : List File) (report : List ℕ) → IsDetermined (IsWriting outputs report)
-writings_agree outputs report (Builds o r) (Builds u s) p q = p.1 ∙ sym q.1
+writings_agree outputs report (Builds o r) (Builds u s) p q = (p.0 ∙ sym q.0, p.1 ∙ sym q.1)
 writings_agree outputs report (Builds o r) (Refuses s l) p q = elim q [ ]
 writings_agree outputs report (Refuses s l) b p q = elim p [ ]
 

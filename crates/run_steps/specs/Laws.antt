@@ -4,10 +4,10 @@ use Rattle.dl_base.specs.declared.status.Status.{Status}
 use Rattle.dl_base.specs.declared.status.Status.TheVariants as statuses
 use Rattle.run_steps.specs.Endings.{Outcome, Refuses, Builds}
 
--- two outcomes refuse with one status and one message, or both build with one report
+-- two outcomes refuse with one status and one message, or both build the same outputs and one report
 abbrev pub Agree : Outcome → Outcome → Type 0
 Agree (Refuses status message) (Refuses other_status other_message) = (status ≡ other_status) × (message ≡ other_message)
-Agree (Builds outputs report) (Builds other_outputs other_report) = report ≡ other_report
+Agree (Builds outputs report) (Builds other_outputs other_report) = (outputs ≡ other_outputs) × (report ≡ other_report)
 Agree (Refuses status message) (Builds outputs report) = ⊥
 Agree (Builds outputs report) (Refuses status message) = ⊥
 

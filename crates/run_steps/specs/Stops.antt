@@ -27,6 +27,7 @@ IsCause called before after statuses.Format message = called (Refuses statuses.F
 IsCause called before after statuses.Read message =
     (Rose before.0 after.0 × IsReadFailure message) ⊎ (Rose before.1 after.1 × called (Refuses statuses.Read message))
 IsCause called before after statuses.Longer message = Rose before.2 after.2 × called (Refuses statuses.Longer message)
+IsCause called before after statuses.Differs message = called (Refuses statuses.Differs message)
 IsCause called before after status message = ⊥
 
 -- a stop is due: memory ran out, or its cause is there
@@ -38,6 +39,7 @@ IsDue called before after (Because status message) = IsCause called before after
 abbrev pub IsOwnCause : (Outcome → Type 0) → Status → List ℕ → Type 0
 IsOwnCause called statuses.Refused message = called (Refuses statuses.Refused message)
 IsOwnCause called statuses.Format message = called (Refuses statuses.Format message)
+IsOwnCause called statuses.Differs message = called (Refuses statuses.Differs message)
 IsOwnCause called status message = ⊥
 
 -- such a stop is due

@@ -1,5 +1,6 @@
-use Rattle.std.proofs.Common.{◌∙◌, sym, ap, subst, map, string_bytes}
+use Rattle.std.proofs.Common.{◌≡◌, ◌∙◌, sym, ap, subst, map, string_bytes}
 use Rattle.std.specs.Prelude.{Option}
+use Rattle.dl_base.specs.declared.status.Status.TheVariants as statuses
 use Rattle.run_steps.specs.Endings.{Builds, and_files}
 use Rattle.run_steps.specs.Outputs.{files_of, report_of}
 use Rattle.run_steps.proofs.Taken.{and_files-none}
@@ -7,7 +8,7 @@ use Rattle.dl_base.specs.Outside.{and_bytes}
 use Rattle.dom0less_words.specs.Meant.{meant}
 use Rattle.dom0less_words.specs.Words.{Asked}
 use Rattle.dom0less.specs.Job.{IsSettingsJob}
-use Rattle.dom0less.proofs.Exact.{words_call, exact_build, exact_stopped}
+use Rattle.dom0less.proofs.Exact.{words_call, exact_build, exact_stopped, same_build}
 use Rattle.dom0less.proofs.Promises.{listed, scripted, stop_names}
 use Rattle.dom0less.proofs.top.run.Goals as goal
 
@@ -59,3 +60,11 @@ pub returns-in-Err-Because-clause-exact : goal.returns-in-Err-Because-clause-exa
 returns-in-Err-Because-clause-exact g c =
     exact_stopped (map string_bytes c.args.words.now) (g.F.Files.held c.args.files.now) (meant c.in-Ok.asked) (sym c.in-Ok.ensures.asked) _ _ c.prepare.result c.in-Err-Because.field-0 c.in-Err-Because.status c.in-Err-Because.message
     c.prepare.ensures.stopped c.in-Err-Because.is c.in-Err-Because.field-0-is
+
+pub returns-in-Ok-prepare-clause-complete : goal.returns-in-Ok-prepare-clause-complete
+returns-in-Ok-prepare-clause-complete g c =
+    let build = c.in-Ok-prepare.build in
+    same_build (map string_bytes c.args.words.now) (g.F.Files.held c.args.files.now) (Unit {0}) (files_of build) (report_of build)
+    (λ outputs report. c.write_all.result ≡ statuses.Built → (g.O.Outs.written c.write_all.new.outs ≡ and_files (g.O.Outs.written c.args.outs.now) outputs) × (g.S.Sink.taken c.write_all.new.out ≡ and_bytes (g.S.Sink.taken c.args.out.now) report))
+    (words_call (map string_bytes c.args.words.now) (g.F.Files.held c.args.files.now) (meant c.in-Ok.asked) (Builds (files_of build) (report_of build)) (sym c.in-Ok.ensures.asked) c.in-Ok-prepare.ensures.built)
+    (λ is_built. let written = c.write_all.ensures.built is_built in (written.0, written.1))

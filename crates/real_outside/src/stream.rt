@@ -6,14 +6,14 @@ use std::io::Write;
 
 /// A writer with a count of its failures, which stands still at its last value.
 #[derive(Drop)]
-pub(crate) struct Stream<W> {
+pub struct Stream<W> {
     writer: W,
     faults: u64,
 }
 
 impl<W: Write> Stream<W> {
     /// A stream with no failure yet.
-    pub(crate) fn new(writer: W) -> Stream<W> {
+    pub fn new(writer: W) -> Stream<W> {
         Stream { writer, faults: 0 }
     }
 }

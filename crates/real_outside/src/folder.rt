@@ -9,7 +9,7 @@ use std::rt::Files;
 
 /// Files and outputs by their paths, with a count of each kind of failure, which stands still at its last value.
 #[derive(Drop)]
-pub(crate) struct Folder<'a, R> {
+pub struct Folder<'a, R> {
     rt: &'a R,
     faults: u64,
     absents: u64,
@@ -18,7 +18,7 @@ pub(crate) struct Folder<'a, R> {
 
 impl<'a, R: Files> Folder<'a, R> {
     /// The file system, with no failure yet.
-    pub(crate) fn new(rt: &'a R) -> Folder<'a, R> {
+    pub fn new(rt: &'a R) -> Folder<'a, R> {
         Folder {
             rt,
             faults: 0,

@@ -1,5 +1,5 @@
 use Rattle.std.proofs.Common.{◌≤◌, length}
-use Rattle.dom0less_cli.proofs.folder.read_within.Given as goal
+use Rattle.real_outside.proofs.folder.read_within.Given as goal
 
 -- no more bytes than the limit so far
 abbrev pub invariant-loop : goal.invariant-loop

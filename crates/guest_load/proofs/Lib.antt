@@ -1,0 +1,12 @@
+pub mod HeadLemmas
+pub mod BankLemmas
+pub mod Sizes
+pub mod LengthLemmas
+pub mod RamdiskLemmas
+pub mod PartSteps
+pub mod LoadingLemmas
+pub mod OneOutcome
+pub mod Exact
+pub mod PlaceLemmas
+pub mod Loaded
+mod Instances

@@ -1,0 +1,27 @@
+// What a run makes before its first write.
+ghost use Rattle.std.specs.Prelude.{◌≡◌, IfOk, IfErr};
+ghost use Rattle.run_steps.specs.Outputs.{outcome_of};
+ghost use Rattle.run_steps.specs.Stops.{IsDue};
+ghost use Rattle.guest_load.specs.Job.{IsAskedJob};
+ghost use Rattle.guest_load.specs.Meant.{meant};
+
+use crate::loading::load_parts;
+use crate::parts::read_parts;
+use crate::words::Asked;
+use dl_base::Files;
+use run_steps::{Build, Stop};
+use std::alloc::Global;
+
+/// Reads the files and makes all that is to be written.
+pub(crate) fn prepare<F: Files>(
+    alloc: Global,
+    asked: &Asked<'_>,
+    files: &mut F,
+) -> Result<Build, Stop>
+    ensures built { IfOk result (λ build. IsAskedJob (F.held files.old) (meant asked.now) (outcome_of build)) }
+    ensures stopped { IfErr result (λ stop. IsDue (IsAskedJob (F.held files.old) (meant asked.now)) (F.faults files.old, F.absents files.old, F.overlong files.old) (F.faults files.new, F.absents files.new, F.overlong files.new) stop) }
+    ensures kept { F.held files.new ≡ F.held files.old }
+{
+    let parts = read_parts(alloc, asked, files)?;
+    load_parts(alloc, asked.out, parts)
+}

@@ -1,0 +1,5 @@
+pub mod Findings
+pub mod Texts
+pub mod Audits
+pub mod Rests
+pub mod Partings

@@ -1,0 +1,150 @@
+//! The audit of the images of guests, one after the other.
+ghost use Rattle.std.specs.Prelude.{◌≡◌, ◌+◌, ℕ, All, IfErr, IfOk, IsSome, List as Items, None, OnOk};
+ghost use Rattle.std.specs.Option.{option_copied};
+ghost use Rattle.dl_base.specs.Maps.{AreMapRanges, AreMerged};
+ghost use Rattle.frame_alloc.specs.Frames.{AreFrameRanges};
+ghost use Rattle.stage2_walk.specs.Files.{image_of};
+ghost use Rattle.stage2_walk.specs.Pages.{frames_of, page_of};
+ghost use Rattle.guest_images.specs.Walks.{tables_in};
+ghost use Rattle.run_steps.specs.Steps.{nothing};
+ghost use Rattle.run_steps.specs.Stops.{Grew, IsDue, IsOwnDue};
+ghost use Rattle.image_audit.specs.Audits.{AfterAudit, AfterAudits, AfterImage, IsAudited, FindsNothing, IsSound, UnlessFound};
+ghost use Rattle.image_audit.specs.Findings.{finding};
+ghost use Rattle.image_audit.specs.Rests.{is_outside, IsLeft};
+
+use crate::finding::find_finding;
+use crate::frames::{all_frames, find_unmapped, leave_tables};
+use crate::texts::make_image_fault_text;
+use build_outputs::make_image_name;
+use dl_base::{Files, FrameRange, List, MapRange, Status};
+use domain_plan::GuestPlan;
+use run_steps::{Stop, make_file_message, read_file};
+use stage2_walk::{Counted, Image, read_image};
+use std::alloc::Global;
+
+// The longest image that is read, in bytes.
+const IMAGE_LIMIT: u64 = 268_435_456;
+
+/// Audits the image of each guest of a plan, read from its file in a folder, where one is given. Of each image first the
+/// format is tested, and then the first finding is named; one image is in memory at a time. The guests' ranges are sorted
+/// and merged, as those of a plan are.
+pub fn audit_images<F: Files>(
+    alloc: Global,
+    guests: &[GuestPlan],
+    folder: Option<&str>,
+    files: &mut F,
+) -> Result<(), Stop>
+    requires sorted { All (λ guest. AreMapRanges guest.ranges) guests.now }
+    requires merged { All (λ guest. AreMerged guest.ranges) guests.now }
+    // Nothing is found in any image, and so they isolate the guests as the plan does.
+    ensures audited { OnOk result (FindsNothing (F.held files.old) (option_copied folder.entry) guests.now) }
+    ensures stopped { IfErr result (λ stop. IsDue (AfterAudits (F.held files.old) (option_copied folder.entry) guests.now nothing) (F.faults files.old, F.absents files.old, F.overlong files.old) (F.faults files.new, F.absents files.new, F.overlong files.new) stop) }
+    ensures grew { Grew (F.faults files.old, F.absents files.old, F.overlong files.old) (F.faults files.new, F.absents files.new, F.overlong files.new) }
+    ensures kept { F.held files.new ≡ F.held files.old }
+{
+    let unmapped = find_unmapped(alloc, guests)?;
+    let mut free = all_frames(alloc)?;
+    for guest in guests {
+        match audit_image(
+            alloc,
+            guest,
+            folder,
+            unmapped.as_slice(),
+            free.as_slice(),
+            files,
+        ) {
+            Ok(left) => free = left,
+            Err(stop) => return Err(stop),
+        }
+    }
+    Ok(())
+}
+
+/// Audits the image of a guest, where some frames are mapped by no guest, and some are free of the tables of earlier images.
+/// Answers the frames that are then free.
+fn audit_image<F: Files>(
+    alloc: Global,
+    guest: &GuestPlan,
+    folder: Option<&str>,
+    unmapped: &[FrameRange],
+    free: &[FrameRange],
+    files: &mut F,
+) -> Result<List<FrameRange>, Stop>
+    requires sorted { AreMapRanges guest.now.ranges }
+    requires merged { AreMerged guest.now.ranges }
+    requires unmapped { AreFrameRanges unmapped.now }
+    requires free { AreFrameRanges free.now }
+    ensures audited { IfOk result (λ left. (bytes : Items ℕ) × IsAudited (F.held files.old) (option_copied folder.entry) (is_outside unmapped.now) (is_outside free.now) guest.now bytes × IsLeft free.now (tables_in (image_of bytes)) left) }
+    ensures stopped { IfErr result (λ stop. IsDue (AfterAudit (F.held files.old) (option_copied folder.entry) (is_outside unmapped.now) (is_outside free.now) guest.now nothing) (F.faults files.old, F.absents files.old, F.overlong files.old) (F.faults files.new, F.absents files.new, F.overlong files.new) stop) }
+    ensures grew { Grew (F.faults files.old, F.absents files.old, F.overlong files.old) (F.faults files.new, F.absents files.new, F.overlong files.new) }
+    ensures kept { F.held files.new ≡ F.held files.old }
+{
+    let name = make_image_name(alloc, folder, guest.number)?;
+    let bytes = read_file(alloc, name.as_str(), IMAGE_LIMIT, files)?;
+    audit_file(
+        alloc,
+        name.as_str(),
+        guest.ranges.as_slice(),
+        unmapped,
+        free,
+        &bytes,
+    )
+}
+
+/// The same of the bytes of the image's file.
+fn audit_file(
+    alloc: Global,
+    name: &str,
+    ranges: &[MapRange],
+    unmapped: &[FrameRange],
+    free: &[FrameRange],
+    bytes: &[u8],
+) -> Result<List<FrameRange>, Stop>
+    requires sorted { AreMapRanges ranges.now }
+    requires merged { AreMerged ranges.now }
+    requires unmapped { AreFrameRanges unmapped.now }
+    requires free { AreFrameRanges free.now }
+    ensures sound { IfOk result (λ left. IsSound (is_outside unmapped.now) (is_outside free.now) ranges.now bytes.now × IsLeft free.now (tables_in (image_of bytes.now)) left) }
+    ensures stopped { IfErr result (λ stop. IsOwnDue (AfterImage name.now (is_outside unmapped.now) (is_outside free.now) ranges.now bytes.now nothing) stop) }
+{
+    match read_image(alloc, bytes) {
+        Ok(image) => audit_tables(alloc, name, ranges, unmapped, free, image),
+        Err(fault) => {
+            let text = make_image_fault_text(alloc, fault)?;
+            Err(Stop::Because(
+                Status::Format,
+                make_file_message(alloc, name, text.as_slice())?,
+            ))
+        }
+    }
+}
+
+/// The same of an image that was read.
+fn audit_tables(
+    alloc: Global,
+    name: &str,
+    ranges: &[MapRange],
+    unmapped: &[FrameRange],
+    free: &[FrameRange],
+    image: Image,
+) -> Result<List<FrameRange>, Stop>
+    requires first { IsSome (page_of image.pages image.root) }
+    requires second { IsSome (page_of image.pages (image.root + 1)) }
+    requires sorted { AreMapRanges ranges.now }
+    requires merged { AreMerged ranges.now }
+    requires unmapped { AreFrameRanges unmapped.now }
+    requires free { AreFrameRanges free.now }
+    ensures sound { OnOk result (finding (is_outside unmapped.now) (is_outside free.now) ranges.now image.pages image.root ≡ None) }
+    ensures left { IfOk result (λ left. IsLeft free.now (frames_of image.pages) left) }
+    ensures stopped { IfErr result (λ stop. IsOwnDue (UnlessFound name.now (λ _. ⊥) (finding (is_outside unmapped.now) (is_outside free.now) ranges.now image.pages image.root)) stop) }
+{
+    let mut words = Counted::new(image);
+    if let Some(text) = find_finding(alloc, &mut words, ranges, unmapped, free)? {
+        return Err(Stop::Because(
+            Status::Differs,
+            make_file_message(alloc, name, text.as_slice())?,
+        ));
+    }
+    let left = leave_tables(alloc, free, words.image())?;
+    Ok(left)
+}
