@@ -7,8 +7,11 @@ use dl_base::{Files, MemFiles, MemOuts, MemSink, Status};
 use std::alloc::{AllocError, Global};
 use std::{fs, io};
 
-// Room for what a job writes: the image of the example has 12,336 bytes.
-const ROOM: usize = 100_000;
+// Room for what a job writes: a script, the host's tree, and two files of each guest, in bytes.
+const ROOM: usize = 200_000;
+
+// How many files a job writes at most.
+pub(crate) const OUTPUTS: usize = 8;
 
 /// What a run answered, wrote and put.
 #[derive(Drop)]
@@ -55,7 +58,7 @@ pub(crate) fn run_job<F: Files>(
 {
     let words = words_of(alloc, more)?;
     let mut outs = MemOuts::new(alloc);
-    outs.reserve(2, ROOM)?;
+    outs.reserve(OUTPUTS, ROOM)?;
     let mut out = MemSink::new(alloc);
     out.reserve(ROOM)?;
     let mut err = MemSink::new(alloc);

@@ -5,50 +5,34 @@
 mod job;
 mod shown;
 
-use crate::job::{Job, read_files, run_job};
-use crate::shown::{show_image, show_text};
+use crate::job::{read_files, run_job};
+use crate::shown::show_job;
 use std::io;
 
 /// The names of the files that the jobs read.
-const FILES: [&str; 7] = [
-    "host.dtb",
+const FILES: [&str; 8] = [
+    "guests.dtb",
     "imagebuilder.cfg",
     "mpsoc.dtb",
     "xen",
     "Image-0",
     "rd-0.cpio",
+    "uart.dtb",
     "Image-1",
 ];
 
-/// The guest addresses whose walks are shown: the first and the last of the guest's memory, and those beside them.
-const ADDRESSES: [u64; 4] = [0x3fff_ffff, 0x4000_0000, 0x5fff_ffff, 0x6000_0000];
+/// The guest addresses whose walks are shown of a configuration's images: the begin of memory, static memory that is mapped
+/// as it lies, and a serial line.
+const CONFIGURED: [u64; 3] = [0x4000_0000, 0x6000_0000, 0xff01_0000];
 
-/// Shows what the build of the host tree's guest answered, and its image.
-fn show_build(rt: &(impl Print + AllocGlobal), job: &Job) -> io::Result<()> {
-    let code = job.status.code();
-    println!(rt; "dom0less -b host.dtb: status {code}")?;
-    if let Some((_name, bytes)) = job.outs.written(1) {
-        show_image(rt, bytes, &ADDRESSES)?;
-    }
-    Ok(())
-}
-
-/// Shows what the run for the boot script answered, and the script.
-fn show_script(rt: &impl Print, job: &Job) -> io::Result<()> {
-    let code = job.status.code();
-    println!(rt; "dom0less -c imagebuilder.cfg --script-only: status {code}")?;
-    show_text(rt, job.out.bytes())?;
-    match job.outs.written(0) {
-        Some((_name, bytes)) => show_text(rt, bytes),
-        None => Ok(()),
-    }
-}
+/// The guest addresses whose walks are shown of a ready tree's images: the begin of memory, an address past it, and a
+/// region that guests share.
+const READY: [u64; 3] = [0x4000_0000, 0x5000_0000, 0x80_0000_0000];
 
 fn main(rt: HostRuntime) -> io::Result<()> {
     let mut files = read_files(&rt, &FILES)?;
-    let build = run_job(rt.alloc(), &mut files, &["-b", "host.dtb"])?;
-    show_build(&rt, &build)?;
-    let words = ["-c", "imagebuilder.cfg", "--script-only"];
-    let script = run_job(rt.alloc(), &mut files, &words)?;
-    show_script(&rt, &script)
+    let configured = run_job(rt.alloc(), &mut files, &["-c", "imagebuilder.cfg"])?;
+    show_job(&rt, "dom0less -c imagebuilder.cfg", &configured, &CONFIGURED)?;
+    let ready = run_job(rt.alloc(), &mut files, &["-b", "guests.dtb"])?;
+    show_job(&rt, "dom0less -b guests.dtb", &ready, &READY)
 }
