@@ -1,0 +1,36 @@
+// Draws with ample memory.
+use dl_base::{FrameRange, List};
+use frame_alloc::{FramePool, PoolFault};
+use std::test::Fail;
+
+#[test]
+fn draws_a_chunk_a_pair_and_frames(rt: HostRuntime) -> Result<(), Fail> {
+    let mut ranges = List::new(rt.alloc());
+    ranges.push(FrameRange { first: 0, count: 1 })?;
+    ranges.push(FrameRange {
+        first: 2,
+        count: 1022,
+    })?;
+    let mut pool = FramePool::new(rt.alloc(), &ranges)?;
+    assert_eq!(rt; pool.free_frames(), 1023);
+    assert_eq!(rt; pool.chunks(), 1);
+    pool.reserve(2)?;
+    assert_eq!(rt; pool.take_chunk(), Ok(512));
+    assert_eq!(rt; pool.take_pair(), Ok(2));
+    assert_eq!(rt; pool.take_frame(), Some(0));
+    assert_eq!(rt; pool.take_frame(), Some(4));
+    assert_eq!(rt; pool.take_chunk(), Err(PoolFault::NoChunk));
+    assert_eq!(rt; pool.free_frames(), 507);
+    Ok(())
+}
+
+#[test]
+fn single_odd_frames_have_no_pair(rt: HostRuntime) -> Result<(), Fail> {
+    let mut ranges = List::new(rt.alloc());
+    ranges.push(FrameRange { first: 1, count: 1 })?;
+    ranges.push(FrameRange { first: 3, count: 1 })?;
+    let mut pool = FramePool::new(rt.alloc(), &ranges)?;
+    assert_eq!(rt; pool.take_pair(), Err(PoolFault::NoPair));
+    assert_eq!(rt; pool.free_frames(), 2);
+    Ok(())
+}
