@@ -12,11 +12,7 @@ use std::alloc::{AllocError, Global};
 pub(crate) const HOST: &str = "host.dtb";
 
 /// The name of the image of the guest with this number, in a folder where one is given.
-pub fn make_image_name(
-    alloc: Global,
-    folder: Option<&str>,
-    number: u64,
-) -> Result<Text, AllocError>
+pub fn make_image_name(alloc: Global, folder: Option<&str>, number: u64) -> Result<Text, AllocError>
     ensures { IfOk result (λ name. name ≡ joined (option_copied folder.entry) (image_name number)) }
 {
     let name = make_guest_name(alloc, number, ".s2")?;

@@ -22,7 +22,7 @@ pub(crate) fn refused(alloc: Global, item: &Item, why: &Why) -> Stop
 }
 
 /// The stop where there is no plan.
-pub(crate) fn plan_stop(alloc: Global, fault: PlanFault) -> Stop
+pub fn plan_stop(alloc: Global, fault: PlanFault) -> Stop
     ensures said { (item : _) → (why : _) → fault ≡ PlanFault.Refused item why → IsOwnDue (IsItemRefusal (item, why)) result }
     ensures memory { fault ≡ PlanFault.Memory → result ≡ Stop.Memory }
 {

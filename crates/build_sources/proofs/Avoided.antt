@@ -1,9 +1,7 @@
 -- Which statuses the steps never refuse with: reading what a script or a ready tree begins with, and partial trees, refuses with the statuses of reading files alone; a configuration with that of an item too.
-use Rattle.std.proofs.Common.{◌≡◌, ℕ, List, inl, inr, codes, map}
+use Rattle.std.proofs.Common.{◌≡◌, ℕ, List, map}
 use Rattle.std.specs.Prelude.{Option, Some, None, Result, Ok, Err}
 use Rattle.dl_base.specs.Outside.{File}
-use Rattle.dl_base.specs.declared.files.FileError.{FileError}
-use Rattle.dl_base.specs.declared.files.FileError.TheVariants as read_errors
 use Rattle.dl_base.specs.declared.loaded.Loaded.{Loaded}
 use Rattle.dl_base.specs.declared.status.Status.{Status}
 use Rattle.dl_base.specs.declared.status.Status.TheVariants as statuses
@@ -23,12 +21,13 @@ use Rattle.script_run.specs.Effect.{tree_load_of, tree_effect}
 use Rattle.script_run.specs.Reading.{commands_of}
 use Rattle.dom0less_words.specs.Words.{Word, Source, Config, Replay, Ready}
 use Rattle.run_steps.specs.Endings.{Outcome, Refuses}
-use Rattle.run_steps.specs.Messages.{file_message}
 use Rattle.run_steps.specs.Names.{joined}
-use Rattle.run_steps.specs.Steps.{IsRefusal, IsReading, IsReadRefusal, IsSize, OnResult, OnOption, AfterReading, AfterSize, AfterSizes, nothing}
-use Rattle.run_steps.specs.Trees.{tree_limit, FlatTree, AfterTree, AfterTreeFile}
+use Rattle.run_steps.specs.Steps.{IsReading, OnResult, AfterReading}
+use Rattle.run_steps.specs.Trees.{FlatTree, AfterTreeFile}
 use Rattle.run_steps.proofs.Step.{Next, Avoids, both_avoid, each_avoids, hand_on_avoids}
-use Rattle.run_steps.proofs.ReadingSteps.{reading_step, size_step}
+use Rattle.run_steps.proofs.ReadingSteps.{reading_step}
+use Rattle.run_steps.proofs.Avoided.{IsOfNoFile, format_avoids, reading_avoids, size_avoids, sizes_avoid, tree_avoids}
+pub use Rattle.run_steps.proofs.Avoided.{item_of_no_file}
 use Rattle.build_sources.specs.Handed.{HandsOn}
 use Rattle.build_sources.specs.Configs.{config_limit, IsConfigRefusal, IsPlaceRefusal, IsMakeRefusal, AfterConfig, AfterFileSizes, AfterScript, AfterHost, AfterMade, Made, IsMade, IsConfigFile, facts_of, host_file, other_files}
 use Rattle.build_sources.specs.Scripts.{script_name}
@@ -38,56 +37,10 @@ use Rattle.build_sources.specs.Partials.{load_at, AfterLoaded, AfterPartial, Aft
 use Rattle.build_sources.proofs.ConfigSteps.{AreFileSizes, config_step, file_sizes_step, made_step}
 use Rattle.build_sources.proofs.SourceSteps.{tree_step, script_file_step, load_size_step, load_sizes_step, partial_step}
 
--- the status is none of those that reading files refuses with
-pub record IsOfNoFile (status : Status) : Type 0 where
-  pub read : status ≡ statuses.Read → ⊥
-  pub longer : status ≡ statuses.Longer → ⊥
-  pub format : status ≡ statuses.Format → ⊥
-
--- as that of an item
-pub item_of_no_file : IsOfNoFile statuses.Refused
-item_of_no_file = record { read = λ e. cc; longer = λ e. cc; format = λ e. cc }
-
 module _ (status : Status) (other : IsOfNoFile status) where
-  -- a result whose faults are refused for their format
-  format_avoids : {A E : Type 0} (text : E → List ℕ) (result : Result A E) → Avoids status (λ (next : Next A). OnResult (λ fault. IsRefusal statuses.Format (text fault)) next result)
-  format_avoids text (Ok value) message p = p
-  format_avoids text (Err fault) message p = other.format p.0
-
-  -- reading a file
-  reading_avoids_in : (name : List ℕ) (limit : ℕ) (result : Result (List ℕ) FileError) (message : List ℕ) → OnResult (IsReadRefusal name limit) nothing result (Refuses status message) → ⊥
-  reading_avoids_in name limit (Ok bytes) message p = p
-  reading_avoids_in name limit (Err read_errors.Absent) message p = other.read p.0
-  reading_avoids_in name limit (Err read_errors.Longer) message p = other.longer p.0
-  reading_avoids_in name limit (Err read_errors.Failed) message p = p
-  reading_avoids_in name limit (Err read_errors.Memory) message p = p
-
-  pub reading_avoids : (told : Option (List File)) (name : List ℕ) (limit : ℕ) → Avoids status (AfterReading told name limit)
-  reading_avoids told name limit message p = reading_avoids_in name limit p.0 message p.2
-
-  -- measuring files
-  size_avoids_in : (name : List ℕ) (size : Option ℕ) (message : List ℕ) → OnOption (IsRefusal statuses.Read (file_message name (codes "not found"))) nothing size (Refuses status message) → ⊥
-  size_avoids_in name (Some size) message p = p
-  size_avoids_in name None message p = other.read p.0
-
-  pub size_avoids : (told : Option (List File)) (name : List ℕ) → Avoids status (AfterSize told name)
-  size_avoids told name message p = size_avoids_in name p.0 message p.2
-
-  pub sizes_avoid : (told : Option (List File)) (names : List (List ℕ)) → Avoids status (AfterSizes told names)
-  sizes_avoid told names = each_avoids (λ name size. IsSize told name (Some size)) (AfterSize told) (size_step told) status (size_avoids told) names
-
-  -- reading a tree
-  flattened_avoids : (name bytes : List ℕ) → Avoids status (AfterTree name bytes)
-  flattened_avoids name bytes message (inl refused) = other.format refused.2.0
-  flattened_avoids name bytes message (inr spelled) = spelled.2
-
-  pub tree_avoids : (told : Option (List File)) (name : List ℕ) → Avoids status (AfterTreeFile told name)
-  tree_avoids told name =
-      both_avoid (λ bytes. IsReading told name tree_limit (Ok bytes)) status (AfterReading told name tree_limit) (AfterTree name) (reading_step told name tree_limit) (reading_avoids told name tree_limit) (flattened_avoids name)
-
   -- running a script
   pub run_avoids : (name : List ℕ) (commands : List Command) (root : Tree) → Avoids status (AfterRun name commands root)
-  run_avoids name commands root = format_avoids _ (tree_effect commands root)
+  run_avoids name commands root = format_avoids status other _ (tree_effect commands root)
 
   pub made_run_avoids : (outputs : Option Word) (made : Made) → Avoids status (AfterMadeRun outputs made)
   made_run_avoids outputs made = run_avoids script_name made.script made.tree.root
@@ -97,11 +50,11 @@ module _ (status : Status) (other : IsOfNoFile status) where
     script_file_avoids : (name : List ℕ) → Avoids status (AfterScriptFile told name)
     script_file_avoids name =
         both_avoid (λ text. IsReading told name script_limit (Ok text)) status (AfterReading told name script_limit) (λ text next. OnResult (IsLineRefusal name) next (commands_of text))
-        (reading_step told name script_limit) (reading_avoids told name script_limit) (λ text. format_avoids _ (commands_of text))
+        (reading_step told name script_limit) (reading_avoids status other told name script_limit) (λ text. format_avoids status other _ (commands_of text))
 
     known_size_avoids : (name : List ℕ) (known : Option ℕ) → Avoids status (AfterKnownSize told name known)
     known_size_avoids name (Some size) = hand_on_avoids status size
-    known_size_avoids name None = size_avoids told name
+    known_size_avoids name None = size_avoids status other told name
 
     load_size_avoids : (folder : Option Word) (tree : Option ℕ) (length : ℕ) (load : ℕ × List ℕ) → Avoids status (AfterLoadSize told folder tree length load)
     load_size_avoids folder tree length (index, name) = known_size_avoids (joined folder name) (known_size tree length index)
@@ -119,7 +72,7 @@ module _ (status : Status) (other : IsOfNoFile status) where
 
     script_read_avoids : (script tree : Word) (folder : Option Word) (commands : List Command) → Avoids status (AfterScriptRead told script tree folder commands)
     script_read_avoids script tree folder commands =
-        both_avoid (HandsOn (AfterTreeFile told tree)) status (AfterTreeFile told tree) (AfterTreeRead told script folder commands) (tree_step told tree) (tree_avoids told tree) (tree_read_avoids script folder commands)
+        both_avoid (HandsOn (AfterTreeFile told tree)) status (AfterTreeFile told tree) (AfterTreeRead told script folder commands) (tree_step told tree) (tree_avoids status other told tree) (tree_read_avoids script folder commands)
 
     pub replay_avoids : (script tree : Word) (folder : Option Word) → Avoids status (AfterReplay told script tree folder)
     replay_avoids script tree folder =
@@ -127,12 +80,12 @@ module _ (status : Status) (other : IsOfNoFile status) where
 
     -- a ready tree
     pub ready_avoids : (tree : Word) → Avoids status (AfterReady told tree)
-    ready_avoids tree = tree_avoids told tree
+    ready_avoids tree = tree_avoids status other told tree
 
     -- partial trees
     loaded_avoids : (folder : Option Word) (load : Option Loaded) → Avoids status (AfterLoaded told folder load)
     loaded_avoids folder None = hand_on_avoids {A = Option Tree} status None
-    loaded_avoids folder (Some load) = tree_avoids told (joined folder load.name)
+    loaded_avoids folder (Some load) = tree_avoids status other told (joined folder load.name)
 
     partial_avoids : (folder : Option Word) (loads : List Loaded) (address : Option ℕ) → Avoids status (AfterPartial told folder loads address)
     partial_avoids folder loads None = hand_on_avoids {A = Option Tree} status None
@@ -167,7 +120,7 @@ module _ (status : Status) (other : IsOfNoFile status) where
       config_avoids : (name : List ℕ) → Avoids status (AfterConfig told name)
       config_avoids name =
           both_avoid (λ bytes. IsReading told name config_limit (Ok bytes)) status (AfterReading told name config_limit) (λ bytes next. OnResult (IsConfigRefusal name) next (config_of bytes))
-          (reading_step told name config_limit) (reading_avoids told name config_limit) (λ bytes. format_avoids _ (config_of bytes))
+          (reading_step told name config_limit) (reading_avoids status other told name config_limit) (λ bytes. format_avoids status other _ (config_of bytes))
 
       module _ (name : List ℕ) (folder : Option Word) (kind : LoadKind) where
         abbrev made_with : Settings → FlatTree → List ℕ → List Command → Made
@@ -179,12 +132,12 @@ module _ (status : Status) (other : IsOfNoFile status) where
         host_tree_avoids : (settings : Settings) (tree : FlatTree) → Avoids status (AfterHostTree settings tree)
         host_tree_avoids settings tree =
             both_avoid (AreFileSizes told folder settings tree) status (AfterFileSizes told folder settings tree) (λ sizes next. AfterScript folder kind settings tree sizes (λ script. next (made_with settings tree sizes script)))
-            (file_sizes_step told name folder kind settings tree) (sizes_avoid told (map (joined folder) (other_files settings))) (script_avoids folder kind settings tree)
+            (file_sizes_step told name folder kind settings tree) (sizes_avoid status other told (map (joined folder) (other_files settings))) (script_avoids folder kind settings tree)
 
         host_avoids : (settings : Settings) → Avoids status (AfterHost told folder kind settings)
         host_avoids settings =
             both_avoid (HandsOn (AfterTreeFile told (host_file folder settings))) status (AfterTreeFile told (host_file folder settings)) (AfterHostTree settings)
-            (tree_step told (host_file folder settings)) (tree_avoids told (host_file folder settings)) (host_tree_avoids settings)
+            (tree_step told (host_file folder settings)) (tree_avoids status other told (host_file folder settings)) (host_tree_avoids settings)
 
         pub made_avoids : Avoids status (AfterMade told name folder kind)
         made_avoids =

@@ -78,7 +78,7 @@ module _ (words : List (List ℕ)) (told : Option (List File)) (asked : Asked) (
   exact_stop statuses.Memory message cause = elim cause [ ]
   exact_stop statuses.Words message cause = elim cause [ ]
   exact_stop statuses.Write message cause = elim cause [ ]
-  exact_stop statuses.Differs message cause = elim cause [ ]
+  exact_stop statuses.Differs message cause = because statuses.Differs message cause
 
   pub exact_stopped : {A : Type 0} (result : Result A Stop) (stop : Stop) (status : Status) (message : List ℕ) → IfErr result (λ s. IsDue (IsAskedJob told asked) before after s)
       → result ≡ Err stop → stop ≡ Because status message → Exact words told (Rose before.0 after.0) status

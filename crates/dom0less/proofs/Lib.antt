@@ -1,4 +1,5 @@
 mod OneOutcome
 mod Exact
 mod Stands
+mod Checks
 mod Promises

@@ -5,12 +5,15 @@ use Rattle.dl_base.specs.Outside.{File}
 use Rattle.run_steps.specs.Laws.{IsDetermined}
 use Rattle.run_steps.proofs.OneOutcome.{on_result_decides, refusals_agree, writings_agree, never_agrees, tree_file_decides}
 use Rattle.tree_plan.specs.Descriptions.{Description}
-use Rattle.dom0less_words.specs.Words.{Word, Source, Asked, Build, Script, Show, Generate}
+use Rattle.tree_plan.specs.TreePlans.{plan_of}
+use Rattle.image_audit.proofs.AuditSteps.{audits_decide}
+use Rattle.dom0less_words.specs.Words.{Word, Source, Asked, Build, Check, Script, Show, Generate}
 use Rattle.dom0less_words.specs.Settings.{settings}
 use Rattle.build_sources.specs.Sources.{Stand, folder_of}
 use Rattle.build_sources.proofs.OneOutcome.{made_decides, source_decides, partials_decide}
 use Rattle.build_outputs.specs.Builds.{IsItemRefusal, built_of}
 use Rattle.dom0less.specs.Builds.{IsPlanWriting, IsDescribedJob, IsStandJob}
+use Rattle.dom0less.specs.Checks.{IsCheckedWriting, IsPlanCheck, IsDescribedCheck, IsStandCheck}
 use Rattle.dom0less.specs.Generated.{generated_description, IsTotalsWriting}
 use Rattle.dom0less.specs.Job.{IsScriptWriting, IsAskedJob, IsSettingsJob}
 use Rattle.dom0less.specs.Laws.{IsOneOutcome}
@@ -21,11 +24,21 @@ described_agree folder stand description =
     on_result_decides IsItemRefusal (λ fault. refusals_agree _ _) (built_of stand.boot description) (IsPlanWriting folder stand description) (λ plan. writings_agree _ _)
 
 module _ (held : List File) where
+  -- an audit of what is described
+  checks_agree : (folder : Option Word) (description : Description) → IsDetermined (IsDescribedCheck (Some held) folder description)
+  checks_agree folder description =
+      on_result_decides IsItemRefusal (λ fault. refusals_agree _ _) (plan_of description) (IsPlanCheck (Some held) folder)
+      (λ plan. audits_decide folder plan.guests held (λ images. IsCheckedWriting plan) (λ images. writings_agree _ _))
+
+  stand_checks_agree : (source : Source) (folder : Option Word) (stand : Stand) → IsDetermined (IsStandCheck (Some held) source folder stand)
+  stand_checks_agree source folder stand = partials_decide held (folder_of source) stand (IsDescribedCheck (Some held) folder) (checks_agree folder)
+
   stand_agree : (source : Source) (folder : Option Word) (stand : Stand) → IsDetermined (IsStandJob (Some held) source folder stand)
   stand_agree source folder stand = partials_decide held (folder_of source) stand (IsDescribedJob folder stand) (described_agree folder stand)
 
   asked_agree : (asked : Asked) → IsDetermined (IsAskedJob (Some held) asked)
   asked_agree (Build source folder) = source_decides held source folder (IsStandJob (Some held) source folder) (stand_agree source folder)
+  asked_agree (Check source folder) = source_decides held source folder (IsStandCheck (Some held) source folder) (stand_checks_agree source folder)
   asked_agree (Script ask) = made_decides held ask.config ask.files ask.kind (IsScriptWriting ask.outputs) (λ made. writings_agree _ _)
   asked_agree (Show tree) = tree_file_decides held tree _ (λ read. writings_agree _ _)
   asked_agree (Generate number) =

@@ -28,7 +28,7 @@ use Rattle.build_sources.proofs.ConfigSteps.{made_step}
 use Rattle.build_sources.proofs.SourceSteps.{source_step, partials_step}
 use Rattle.build_outputs.specs.Builds.{IsItemRefusal, built_of}
 use Rattle.dom0less.specs.Builds.{IsPlanWriting, IsDescribedJob, IsStandJob, IsBuildJob}
-use Rattle.dom0less.specs.Headline.{NamesFirstRefused, IsRefusedBefore, IsListing}
+use Rattle.dom0less.specs.Headline.{NamesFirstRefused, IsRefusedBefore, IsListing, IsPromised}
 use Rattle.dom0less.specs.Job.{IsTreeListing, IsScriptWriting, IsScriptJob, IsAskedJob, IsSettingsJob}
 
 module _ (told : Option (List File)) (outputs : List File) (report : List ℕ) where
@@ -44,6 +44,15 @@ module _ (told : Option (List File)) (outputs : List File) (report : List ℕ) w
   scripted ask job =
       let found = found_by (IsMade told ask.config ask.files ask.kind) (AfterMade told ask.config ask.files ask.kind) (made_step told ask.config ask.files ask.kind) (IsScriptWriting ask.outputs) outputs report job in
       (found.0, found.1, found.2.0, found.2.1)
+
+-- what is promised of what is asked for, by the words that ask for it
+some_same : (one other : Asked) → Some one ≡ Some other → one ≡ other
+some_same one other e = cc
+
+pub promised_for : (told : Option (List File)) (words : List (List ℕ)) (asked wanted : Asked) (outputs : List File) (report : List ℕ) → settings words ≡ Some asked → settings words ≡ Some wanted
+    → IsPromised told asked outputs report → IsPromised told wanted outputs report
+promised_for told words asked wanted outputs report named asks promised =
+    subst (λ (a : Asked). IsPromised told a outputs report) (some_same asked wanted (sym named ∙ asks)) promised
 
 -- the refused item of what is described
 item_named : (folder : Option Word) (stand : Stand) (description : Description) (message : List ℕ) (built : Result TreePlan Refusal) → built_of stand.boot description ≡ built

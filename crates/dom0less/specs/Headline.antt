@@ -1,5 +1,5 @@
 -- What status 0 promises of what was written, and what a refusal names.
-use Rattle.std.specs.Prelude.{◌≡◌, ◌++◌, ℕ, List, Option, Err}
+use Rattle.std.specs.Prelude.{◌≡◌, ◌++◌, ℕ, List, [], length, Option, Ok, Err}
 use Rattle.dl_base.specs.Outside.{File}
 use Rattle.domain_plan.specs.Refusals.{Refusal}
 use Rattle.fdt_listing.specs.Listing.{listing}
@@ -9,8 +9,12 @@ use Rattle.run_steps.specs.Steps.{nothing}
 use Rattle.build_sources.specs.Configs.{AfterMade}
 use Rattle.run_steps.specs.Messages.{refused_message}
 use Rattle.run_steps.specs.Trees.{FlatTree, IsTreeFile}
+use Rattle.guest_images.specs.Walks.{AllWalk, MeetOnlyIn, AreApart}
+use Rattle.image_audit.specs.Audits.{AreAudited}
+use Rattle.image_audit.specs.Texts.{checked_line}
 use Rattle.tree_plan.specs.Descriptions.{Description}
-use Rattle.dom0less_words.specs.Words.{Word, Source, Config, Asked, Build}
+use Rattle.tree_plan.specs.TreePlans.{TreePlan, plan_of, is_common}
+use Rattle.dom0less_words.specs.Words.{Word, Source, Config, Asked, Build, Check}
 use Rattle.build_sources.specs.Sources.{Stand, StandsOn, folder_of}
 use Rattle.build_sources.specs.Edited.{HasEditedTree}
 use Rattle.build_sources.specs.Partials.{Describes}
@@ -58,7 +62,27 @@ abbrev pub IsRefusedBefore : Option (List File) → Source → List ℕ → Type
 IsRefusedBefore told (Config config folder kind) message = AfterMade told config folder kind nothing (Refuses statuses.Refused message)
 IsRefusedBefore told source message = ⊥
 
--- what status 0 promises beyond the job, by what is asked for: of a build, what its images and trees are
+-- Each image was read as that of a guest and nothing is found in it. So all walk as the plan maps, whoever made them; two meet only in a region that both guests name by one id, and no table lies where a guest can reach it.
+pub record IsPlanAudited (told : Option (List File)) (folder : Option Word) (description : Description) (report : List ℕ) : Type 0 where
+  pub plan : TreePlan
+  pub planned : plan_of description ≡ Ok plan
+  pub images : List (List ℕ)
+  pub audited : AreAudited told folder plan.guests [] plan.guests images
+  pub reported : report ≡ checked_line (length plan.guests)
+  pub walks : AllWalk plan.guests images
+  pub meet : MeetOnlyIn (is_common description) images
+  pub apart : AreApart images
+
+-- The files are read and describe guests whose images were audited.
+pub record IsDescribedAudit (told : Option (List File)) (source : Source) (folder : Option Word) (report : List ℕ) : Type 0 where
+  pub stand : Stand
+  pub stands : StandsOn told source folder stand
+  pub description : Description
+  pub described : Describes told (folder_of source) stand description
+  pub audited : IsPlanAudited told folder description report
+
+-- what status 0 promises beyond the job, by what is asked for: of a build, what its images and trees are; of an audit, what the images are
 abbrev pub IsPromised : Option (List File) → Asked → List File → List ℕ → Type 0
 IsPromised told (Build source folder) outputs report = IsDescribedBuild told source folder outputs report
+IsPromised told (Check source folder) outputs report = (outputs ≡ []) × IsDescribedAudit told source folder report
 IsPromised told asked outputs report = Unit {0}

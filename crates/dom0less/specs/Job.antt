@@ -5,11 +5,12 @@ use Rattle.fdt_listing.specs.Listing.{listing}
 use Rattle.run_steps.specs.Endings.{Outcome}
 use Rattle.run_steps.specs.Steps.{IsWriting}
 use Rattle.run_steps.specs.Trees.{FlatTree, AfterTreeFile}
-use Rattle.dom0less_words.specs.Words.{Word, ScriptAsked, Asked, Build, Script, Show, Generate}
+use Rattle.dom0less_words.specs.Words.{Word, ScriptAsked, Asked, Build, Check, Script, Show, Generate}
 use Rattle.dom0less_words.specs.Settings.{settings}
 use Rattle.build_sources.specs.Configs.{Made, AfterMade}
 use Rattle.build_sources.specs.Scripts.{script_file, unused_lines}
 use Rattle.dom0less.specs.Builds.{IsBuildJob}
+use Rattle.dom0less.specs.Checks.{IsCheckJob}
 use Rattle.dom0less.specs.Generated.{IsGeneratedJob}
 
 -- a tree's listing is put, and nothing is written
@@ -27,6 +28,7 @@ IsScriptJob told ask outcome = AfterMade told ask.config ask.files ask.kind (IsS
 -- what is asked for
 abbrev pub IsAskedJob : Option (List File) → Asked → Outcome → Type 0
 IsAskedJob told (Build source folder) outcome = IsBuildJob told source folder outcome
+IsAskedJob told (Check source folder) outcome = IsCheckJob told source folder outcome
 IsAskedJob told (Script ask) outcome = IsScriptJob told ask outcome
 IsAskedJob told (Show tree) outcome = AfterTreeFile told tree IsTreeListing outcome
 IsAskedJob told (Generate number) outcome = IsGeneratedJob number outcome

@@ -1,5 +1,6 @@
 pub mod Lines
 pub mod Builds
+pub mod Checks
 pub mod Generated
 pub mod Job
 pub mod Headline

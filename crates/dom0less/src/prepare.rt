@@ -7,6 +7,7 @@ ghost use Rattle.dom0less.specs.Headline.{IsPromised};
 ghost use Rattle.dom0less.specs.Job.{IsAskedJob};
 
 use crate::build::prepare_build;
+use crate::check::prepare_check;
 use crate::generated::prepare_generated;
 use crate::listing::prepare_listing;
 use crate::script::prepare_script;
@@ -29,6 +30,7 @@ pub(crate) fn prepare<F: Files>(
 {
     match asked {
         Asked::Build(source, folder) => prepare_build(alloc, source, *folder, files),
+        Asked::Check(source, folder) => prepare_check(alloc, source, *folder, files),
         Asked::Script(script) => prepare_script(alloc, script, files),
         Asked::Show(tree) => prepare_listing(alloc, tree, files),
         Asked::Generate(number) => prepare_generated(alloc, *number),

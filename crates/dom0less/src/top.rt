@@ -6,12 +6,12 @@ ghost use Rattle.run_steps.specs.Endings.{Refuses, Builds, Said, and_files, Took
 ghost use Rattle.run_steps.specs.Laws.{AnswersUnless};
 ghost use Rattle.dom0less_words.specs.Command.{is_taken};
 ghost use Rattle.dom0less_words.specs.Settings.{settings};
-ghost use Rattle.dom0less_words.specs.Words.{Build, Show, Script};
+ghost use Rattle.dom0less_words.specs.Words.{Build, Check, Show, Script};
 ghost use Rattle.build_sources.specs.Configs.{IsMade};
 ghost use Rattle.build_sources.specs.Scripts.{script_file, unused_lines};
 ghost use Rattle.dom0less.specs.Lines.{line};
 ghost use Rattle.dom0less.specs.Job.{IsJob, CallsFor};
-ghost use Rattle.dom0less.specs.Headline.{IsDescribedBuild, IsListing, NamesFirstRefused, IsRefusedBefore};
+ghost use Rattle.dom0less.specs.Headline.{IsDescribedAudit, IsDescribedBuild, IsListing, NamesFirstRefused, IsRefusedBefore};
 
 use crate::lines::say_text;
 use crate::prepare::prepare;
@@ -23,8 +23,8 @@ use std::alloc::Global;
 // The program's name, with which each of its lines begins.
 const PROGRAM: &str = "dom0less";
 
-/// Builds the guests that a configuration, a script with a tree, or a ready tree describes, writes a configuration's boot
-/// script alone, lists a tree, or builds a generated tree, as `words` say. The answer is the program's status; a line on
+/// Builds the guests that a configuration, a script with a tree, or a ready tree describes, audits the images of
+/// such a build, writes a configuration's boot script alone, lists a tree, or builds a generated tree, as `words` say. The answer is the program's status; a line on
 /// `err` says why it is not `Built`.
 ///
 /// `words` are those of the command line, the program's name first; `dom0less_words` reads them. All bytes are made before
@@ -51,6 +51,13 @@ pub fn run<F: Files, O: Outs, S: Sink, E: Sink>(
     ensures first_refused { (source : _) → (folder : _) → settings (map string_bytes words.now) ≡ Some (Build source folder) → result ≡ Status.Refused → (message : _)
         × Said E.taken E.faults err.old err.new (line message)
         × (NamesFirstRefused (F.held files.old) source folder message ⊎ IsRefusedBefore (F.held files.old) source message) }
+
+    // An audit answers Built only where each image walks as its guest is described, whoever made it, no two images meet but
+    // in a region that both guests name by one id, and no table lies in a frame that a guest can reach; nothing is written.
+    ensures audit { (source : _) → (folder : _) → settings (map string_bytes words.now) ≡ Some (Check source folder) → result ≡ Status.Built → (report : _)
+        × IsDescribedAudit (F.held files.old) source folder report
+        × (O.written outs.new ≡ O.written outs.old)
+        × (S.taken out.new ≡ and_bytes (S.taken out.old) report) }
 
     // A listing goes to standard output, and nothing else is written.
     ensures listing { (tree : _) → settings (map string_bytes words.now) ≡ Some (Show tree) → result ≡ Status.Built → (text : _)
@@ -90,6 +97,11 @@ pub fn run<F: Files, O: Outs, S: Sink, E: Sink>(
         × Said E.taken E.faults err.old err.new (line message)
         × CallsFor (map string_bytes words.now) (F.held files.old) (Refuses result message) }
 
+    // An audit found something: as the files call for.
+    ensures differs { result ≡ Status.Differs → (message : _)
+        × Said E.taken E.faults err.old err.new (line message)
+        × CallsFor (map string_bytes words.now) (F.held files.old) (Refuses result message) }
+
     // A file is too long: only where that count rose, and as the files call for.
     ensures longer { result ≡ Status.Longer → (message : _)
         × Said E.taken E.faults err.old err.new (line message)
@@ -125,7 +137,6 @@ pub fn run<F: Files, O: Outs, S: Sink, E: Sink>(
     // Every other answer leaves the outputs and `out` as they were.
     ensures outs_kept { result ≢ Status.Built → result ≢ Status.Write → outs.new ≡ outs.old }
     ensures out_kept { result ≢ Status.Built → result ≢ Status.Write → out.new ≡ out.old }
-    ensures no_audit { result ≢ Status.Differs }
 
     // The files hold what they held.
     ensures files_kept { F.held files.new ≡ F.held files.old }

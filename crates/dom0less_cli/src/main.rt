@@ -1,9 +1,6 @@
 //! The program `dom0less`, over the real file system and streams.
 #![tactic(auto)]
 
-#[cfg(test)]
-mod tests;
-
 use real_outside::{Folder, Stream, unread_words, words};
 use run_steps::say;
 use std::process::ExitCode;

@@ -1,12 +1,12 @@
 -- A tree is generated for a number up to the limit alone.
 use Rattle.std.proofs.Common.{◌≡◌, refl, arith, ℕ, ◌≤◌, Bool, true, false, Some, None, Ok, Err}
-use Rattle.std.specs.Prelude.{Option, Result, nat_le, if◌then◌else◌, is_none, ◌&&◌, option_map, option_and_then}
+use Rattle.std.specs.Prelude.{Option, Result, nat_le, if◌then◌else◌, is_none, ◌&&◌, option_and_then}
 use Rattle.std.proofs.lemmas.Bool.Decides.{nat_tests}
 use Rattle.dl_base.specs.NumberTexts.{number_of}
 use Rattle.dl_base.specs.declared.number.NumberFault.{NumberFault}
 use Rattle.ib_script.specs.declared.make.LoadKind.{LoadKind}
-use Rattle.dom0less_words.specs.Words.{Word, Asked, Options, Build, Script, Show, Generate, Source, Config, Replay, Ready}
-use Rattle.dom0less_words.specs.Usage.{Mode, OfConfig, OfReplay, OfReady, OfShow, OfGenerate, asked_of, has_no_script_options, load_kind_of, mode_of, of_config, of_mode, stands_alone, within}
+use Rattle.dom0less_words.specs.Words.{Word, Asked, Options, Script, Show, Generate, Source, Config, Replay, Ready}
+use Rattle.dom0less_words.specs.Usage.{Mode, OfConfig, OfReplay, OfReady, OfShow, OfGenerate, asked_of, built_or_checked, has_no_script_options, load_kind_of, mode_of, of_config, of_mode, stands_alone, within}
 
 -- what is asked for is the build of a generated tree for such a number alone
 abbrev IsWithin : Option Asked → Type 0
@@ -16,10 +16,15 @@ IsWithin asked = (number : ℕ) → asked ≡ Some (Generate number) → number 
 nothing : IsWithin None
 nothing number is = absurd (cc)
 
+-- a build or an audit
+built : (check : Bool) (source : Source) (folder : Option Word) → IsWithin (Some (built_or_checked check source folder))
+built true source folder number is = absurd (cc)
+built false source folder number is = absurd (cc)
+
 -- another thing, or nothing
-build_or_nothing : (test : Bool) (source : Source) (outputs : Option Word) → IsWithin (if test then Some (Build source outputs) else None)
-build_or_nothing true source outputs number is = absurd (cc)
-build_or_nothing false source outputs number is = absurd (cc)
+built_or_nothing : (test check : Bool) (source : Source) (folder : Option Word) → IsWithin (if test then Some (built_or_checked check source folder) else None)
+built_or_nothing true check source folder = built check source folder
+built_or_nothing false check source folder = nothing
 
 listing_or_nothing : (test : Bool) (tree : Word) → IsWithin (if test then Some (Show tree) else None)
 listing_or_nothing true tree number is = absurd (cc)
@@ -35,19 +40,20 @@ read : (alone : Bool) (number : Result ℕ NumberFault) → IsWithin (option_and
 read alone (Ok n) = generated alone n (nat_le n 1000000) refl
 read alone (Err fault) = nothing
 
--- a configuration asks for a build or a script
-configured : (o : Options) (config : Word) (kind : Option LoadKind) → IsWithin (option_map (of_config o config) kind)
+-- a configuration asks for a build, an audit or a script
+configured : (o : Options) (config : Word) (kind : Option LoadKind) → IsWithin (option_and_then (of_config o config) kind)
 configured o config None = nothing
-configured o config (Some kind) = by o.script_only
+configured o config (Some kind) = by o.script_only o.check
   where
-    by : (alone : Bool) → IsWithin (Some (if alone then Script (record { config = config; files = o.files; outputs = o.outputs; kind = kind }) else Build (Config config o.files kind) o.outputs))
-    by true number is = absurd (cc)
-    by false number is = absurd (cc)
+    by : (alone check : Bool) → IsWithin (if alone then (if check then None else Some (Script (record { config = config; files = o.files; outputs = o.outputs; kind = kind }))) else Some (built_or_checked check (Config config o.files kind) o.outputs))
+    by true true number is = absurd (cc)
+    by true false number is = absurd (cc)
+    by false check number is = built check (Config config o.files kind) o.outputs number is
 
 in_mode : (o : Options) (mode : Mode) → IsWithin (of_mode o mode)
 in_mode o (OfConfig config) = configured o config (load_kind_of o.kind)
-in_mode o (OfReplay script tree) = build_or_nothing (has_no_script_options o) (Replay script tree o.files) o.outputs
-in_mode o (OfReady tree) = build_or_nothing (is_none o.files && has_no_script_options o) (Ready tree) o.outputs
+in_mode o (OfReplay script tree) = built_or_nothing (has_no_script_options o) o.check (Replay script tree o.files) o.outputs
+in_mode o (OfReady tree) = built_or_nothing (is_none o.files && has_no_script_options o) o.check (Ready tree) o.outputs
 in_mode o (OfShow tree) = listing_or_nothing (stands_alone o) tree
 in_mode o (OfGenerate word) = read (stands_alone o) (number_of word)
 

@@ -1,4 +1,4 @@
--- The program's command, as `clap` reads it: nine options, each at most once, and no subcommand.
+-- The program's command, as `clap` reads it: ten options, each at most once, and no subcommand.
 use Rattle.std.specs.Prelude.{ℕ, Bool, List, [], ◌∷◌, codes, Some, bytes_eq, fold, false}
 use Rattle.std.specs.Option.{option_map_or}
 use Rattle.clap.specs.Words.{App, Rule, Row, fault_of, first_of, matches_of, new_app, new_rule, with_rule}
@@ -25,7 +25,7 @@ letters = lettered (codes "config") 99 ∷ lettered (codes "script") 114 ∷ let
 
 -- the options that have a name
 abbrev pub names : List Rule
-names = flag (codes "script-only") ∷ named (codes "show") ∷ named (codes "gen") ∷ []
+names = flag (codes "script-only") ∷ flag (codes "check") ∷ named (codes "show") ∷ named (codes "gen") ∷ []
 
 -- the command, which takes each option at most once
 abbrev pub command : App
@@ -49,6 +49,7 @@ options_in rows = record {
   outputs = first_of (codes "outputs") rows;
   kind = first_of (codes "kind") rows;
   script_only = is_set (codes "script-only") rows;
+  check = is_set (codes "check") rows;
   show = first_of (codes "show") rows;
   generate = first_of (codes "gen") rows;
 }

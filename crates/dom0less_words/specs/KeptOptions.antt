@@ -13,6 +13,7 @@ meant_options o = record {
   outputs = option_copied o.outputs;
   kind = option_copied o.kind;
   script_only = o.script_only;
+  check = o.check;
   show = option_copied o.show;
   generate = option_copied o.generate;
 }

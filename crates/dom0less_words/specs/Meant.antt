@@ -2,7 +2,7 @@
 use Rattle.std.specs.Option.{option_copied}
 use Rattle.dom0less_words.specs.Words as words
 use Rattle.dom0less_words.specs.declared.asked.Asked.{Asked}
-use Rattle.dom0less_words.specs.declared.asked.Asked.TheVariants.{Build, Script, Show, Generate}
+use Rattle.dom0less_words.specs.declared.asked.Asked.TheVariants.{Build, Check, Script, Show, Generate}
 use Rattle.dom0less_words.specs.declared.asked.Source.{Source}
 use Rattle.dom0less_words.specs.declared.asked.Source.TheVariants.{Config, Replay, Ready}
 use Rattle.dom0less_words.specs.declared.asked.ScriptAsked.{ScriptAsked}
@@ -25,6 +25,7 @@ meant_script script = record {
 -- what is asked for
 abbrev pub meant : Asked → words.Asked
 meant (Build source outputs) = words.Build (meant_source source) (option_copied outputs)
+meant (Check source images) = words.Check (meant_source source) (option_copied images)
 meant (Script script) = words.Script (meant_script script)
 meant (Show tree) = words.Show tree.now
 meant (Generate number) = words.Generate number

@@ -1,10 +1,10 @@
 -- The rules of usage: which options may stand together, and what they ask for.
-use Rattle.std.specs.Prelude.{ℕ, ◌&&◌, Bool, not, if◌then◌else◌, nat_le, bytes_eq, codes, Option, Some, None, is_none, Result, Ok, Err, option_map, option_and_then}
+use Rattle.std.specs.Prelude.{ℕ, ◌&&◌, Bool, not, if◌then◌else◌, nat_le, bytes_eq, codes, Option, Some, None, is_none, Result, Ok, Err, option_and_then}
 use Rattle.dl_base.specs.NumberTexts.{number_of}
 use Rattle.dl_base.specs.declared.number.NumberFault.{NumberFault}
 use Rattle.ib_script.specs.declared.make.LoadKind.{LoadKind}
 use Rattle.ib_script.specs.declared.make.LoadKind.TheVariants.{Tftp, Sd, Scsi, Usb}
-use Rattle.dom0less_words.specs.Words.{Word, Config, Replay, Ready, Asked, Build, Script, Show, Generate, Options}
+use Rattle.dom0less_words.specs.Words.{Word, Source, Config, Replay, Ready, Asked, Build, Check, Script, Show, Generate, Options}
 
 -- the five modes, each with the words that stand with it
 pub data Mode : Type 0 where
@@ -52,22 +52,26 @@ generated_of word = within (number_of word)
 abbrev pub has_no_script_options : Options → Bool
 has_no_script_options o = is_none o.kind && not o.script_only
 
--- neither `-d` nor `-w` is given either
+-- none of `-d`, `-w` and `--check` is given either
 abbrev pub stands_alone : Options → Bool
-stands_alone o = is_none o.files && (is_none o.outputs && has_no_script_options o)
+stands_alone o = is_none o.files && (is_none o.outputs && (not o.check && has_no_script_options o))
 
--- a configuration's script alone, or the build from it
-abbrev pub of_config : Options → Word → LoadKind → Asked
+-- the audit of a build's images, where `--check` is given, or else the build
+abbrev pub built_or_checked : Bool → Source → Option Word → Asked
+built_or_checked check source folder = if check then Check source folder else Build source folder
+
+-- a configuration's script alone, of which there is no audit, or the build from it or the audit of that
+abbrev pub of_config : Options → Word → LoadKind → Option Asked
 of_config o config kind =
     if o.script_only
-    then Script (record { config = config; files = o.files; outputs = o.outputs; kind = kind })
-    else Build (Config config o.files kind) o.outputs
+    then (if o.check then None else Some (Script (record { config = config; files = o.files; outputs = o.outputs; kind = kind })))
+    else Some (built_or_checked o.check (Config config o.files kind) o.outputs)
 
 -- what a mode and the other options ask for, where these may stand with it
 abbrev pub of_mode : Options → Mode → Option Asked
-of_mode o (OfConfig config) = option_map (of_config o config) (load_kind_of o.kind)
-of_mode o (OfReplay script tree) = if has_no_script_options o then Some (Build (Replay script tree o.files) o.outputs) else None
-of_mode o (OfReady tree) = if is_none o.files && has_no_script_options o then Some (Build (Ready tree) o.outputs) else None
+of_mode o (OfConfig config) = option_and_then (of_config o config) (load_kind_of o.kind)
+of_mode o (OfReplay script tree) = if has_no_script_options o then Some (built_or_checked o.check (Replay script tree o.files) o.outputs) else None
+of_mode o (OfReady tree) = if is_none o.files && has_no_script_options o then Some (built_or_checked o.check (Ready tree) o.outputs) else None
 of_mode o (OfShow tree) = if stands_alone o then Some (Show tree) else None
 of_mode o (OfGenerate word) = option_and_then (λ number. if stands_alone o then Some (Generate number) else None) (generated_of word)
 

@@ -36,7 +36,8 @@ const TREE_HELP: &str = "The host tree; without -r: build from it as it is";
 const FILES_HELP: &str = "With -c or -r: the folder of the files that are named there";
 
 /// What `-w` is for.
-const OUTPUTS_HELP: &str = "With -c, -r or -b: the folder of the outputs";
+const OUTPUTS_HELP: &str =
+    "With -c, -r or -b: the folder of the outputs, or of the images that are audited";
 
 /// What `-t` is for.
 const KIND_HELP: &str =
@@ -44,6 +45,10 @@ const KIND_HELP: &str =
 
 /// What `--script-only` is for.
 const SCRIPT_ONLY_HELP: &str = "With -c: write boot.source and stop";
+
+/// What `--check` is for.
+const CHECK_HELP: &str =
+    "With -c, -r or -b: audit the images in the folder of -w in place of writing them";
 
 /// What `--show` is for.
 const SHOW_HELP: &str = "List this tree";
@@ -54,24 +59,25 @@ const GENERATED_HELP: &str =
 
 /// What the program is for, as its help begins.
 const ABOUT: &str =
-    "Builds dom0less boots of Xen: boot scripts, device trees and stage-2 tables of guests";
+    "Builds dom0less boots of Xen: boot scripts, device trees and stage-2 tables of guests, and audits such tables";
 
 /// The modes, with the options that each takes, and an example, as the help ends.
 const AFTER_HELP: &str = "Modes, of which exactly one is given:
-  -c <CONFIG> [-d <DIR>] [-w <DIR>] [-t <KIND>]
-          Make the boot script of a configuration, run it on the host tree, and build
+  -c <CONFIG> [-d <DIR>] [-w <DIR>] [-t <KIND>] [--check]
+          Make the boot script of a configuration, run it on the host tree, and build or audit
   -c <CONFIG> --script-only [-d <DIR>] [-w <DIR>] [-t <KIND>]
           Make the boot script of a configuration
-  -r <SCRIPT> -b <TREE> [-d <DIR>] [-w <DIR>]
-          Run a boot script on the host tree, and build
-  -b <TREE> [-w <DIR>]
-          Build from a host tree as it is
+  -r <SCRIPT> -b <TREE> [-d <DIR>] [-w <DIR>] [--check]
+          Run a boot script on the host tree, and build or audit
+  -b <TREE> [-w <DIR>] [--check]
+          Build from a host tree as it is, or audit
   --show <TREE>
           List a tree on standard output
   --gen <N>
           Build a generated tree, and say in a line what it needs
 
 A build writes host.dtb and the files of each guest, with -c also boot.source, and puts a report on standard output.
+An audit writes no file: it compares the image of each guest with what the guest is planned to be given.
 
 Example:
   dom0less -c config -d files -w out";
@@ -105,6 +111,7 @@ fn with_names<'a>(alloc: Global, command: Command<'a>) -> Result<Command<'a>, Al
 {
     let made = command
         .arg(flag(alloc, "script-only", SCRIPT_ONLY_HELP))?
+        .arg(flag(alloc, "check", CHECK_HELP))?
         .arg(named(alloc, "show", "TREE", SHOW_HELP))?
         .arg(named(alloc, "gen", "N", GENERATED_HELP))?;
     Ok(made)
@@ -161,6 +168,7 @@ fn options_in<'a>(matches: &ArgMatches<'a>) -> Options<'a>
         outputs: value_of(matches, "outputs"),
         kind: value_of(matches, "kind"),
         script_only: is_set(matches, "script-only"),
+        check: is_set(matches, "check"),
         show: value_of(matches, "show"),
         generate: value_of(matches, "gen"),
     }

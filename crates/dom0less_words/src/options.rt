@@ -1,15 +1,15 @@
 //! The rules of usage.
 ghost use Rattle.std.specs.Prelude.{◌≡◌, option_map};
 ghost use Rattle.std.specs.Option.{option_copied};
-ghost use Rattle.dom0less_words.specs.Usage.{asked_of, load_kind_of, generated_of, has_no_script_options, stands_alone, of_config, of_mode, OfReplay, OfReady, OfShow, OfGenerate};
-ghost use Rattle.dom0less_words.specs.Meant.{meant};
+ghost use Rattle.dom0less_words.specs.Usage.{asked_of, load_kind_of, generated_of, has_no_script_options, stands_alone, built_or_checked, of_config, of_mode, OfReplay, OfReady, OfShow, OfGenerate};
+ghost use Rattle.dom0less_words.specs.Meant.{meant, meant_source};
 ghost use Rattle.dom0less_words.specs.KeptOptions.{meant_options};
 
 use crate::asked::{Asked, ScriptAsked, Source};
 use dl_base::read_number;
 use ib_script::LoadKind;
 
-/// The value of each option, and whether `--script-only` was given.
+/// The value of each option, and whether each flag was given.
 #[derive(Clone, Copy)]
 pub(crate) struct Options<'a> {
     pub(crate) config: Option<&'a str>,
@@ -19,6 +19,7 @@ pub(crate) struct Options<'a> {
     pub(crate) outputs: Option<&'a str>,
     pub(crate) kind: Option<&'a str>,
     pub(crate) script_only: bool,
+    pub(crate) check: bool,
     pub(crate) show: Option<&'a str>,
     pub(crate) generate: Option<&'a str>,
 }
@@ -39,7 +40,7 @@ pub(crate) fn asked<'a>(options: &Options<'a>) -> Option<Asked<'a>>
     ) {
         (Some(config), None, None, None, None) => {
             let kind = read_load_kind(options.kind)?;
-            Some(of_config(options, config, kind))
+            of_config(options, config, kind)
         }
         (None, Some(script), Some(tree), None, None) => of_replay(options, script, tree),
         (None, None, Some(tree), None, None) => of_ready(options, tree),
@@ -60,22 +61,38 @@ fn has_no_script_options(options: &Options<'_>) -> bool
 fn stands_alone(options: &Options<'_>) -> bool
     ensures { result ≡ stands_alone (meant_options options.now) }
 {
-    options.files.is_none() && options.outputs.is_none() && has_no_script_options(options)
+    options.files.is_none()
+        && options.outputs.is_none()
+        && !options.check
+        && has_no_script_options(options)
+}
+
+/// The audit of a build's images, or the build.
+fn built_or_checked<'a>(check: bool, source: Source<'a>, folder: Option<&'a str>) -> Asked<'a>
+    ensures { meant result ≡ built_or_checked check (meant_source source.entry) (option_copied folder.entry) }
+{
+    if check {
+        Asked::Check(source, folder)
+    } else {
+        Asked::Build(source, folder)
+    }
 }
 
 /// What a configuration is read for.
-fn of_config<'a>(options: &Options<'a>, config: &'a str, kind: LoadKind) -> Asked<'a>
-    ensures { meant result ≡ of_config (meant_options options.now) config.entry.now kind }
+fn of_config<'a>(options: &Options<'a>, config: &'a str, kind: LoadKind) -> Option<Asked<'a>>
+    ensures { option_map meant result ≡ of_config (meant_options options.now) config.entry.now kind }
 {
     if options.script_only {
-        Asked::Script(ScriptAsked {
+        let script = ScriptAsked {
             config,
             files: options.files,
             outputs: options.outputs,
             kind,
-        })
+        };
+        (!options.check).then_some(Asked::Script(script))
     } else {
-        Asked::Build(Source::Config(config, options.files, kind), options.outputs)
+        let source = Source::Config(config, options.files, kind);
+        Some(built_or_checked(options.check, source, options.outputs))
     }
 }
 
@@ -84,7 +101,8 @@ fn of_replay<'a>(options: &Options<'a>, script: &'a str, tree: &'a str) -> Optio
     ensures { option_map meant result ≡ of_mode (meant_options options.now) (OfReplay script.entry.now tree.entry.now) }
 {
     let source = Source::Replay(script, tree, options.files);
-    has_no_script_options(options).then_some(Asked::Build(source, options.outputs))
+    let asked = built_or_checked(options.check, source, options.outputs);
+    has_no_script_options(options).then_some(asked)
 }
 
 /// What a ready tree is read for.
@@ -92,7 +110,8 @@ fn of_ready<'a>(options: &Options<'a>, tree: &'a str) -> Option<Asked<'a>>
     ensures { option_map meant result ≡ of_mode (meant_options options.now) (OfReady tree.entry.now) }
 {
     let may_stand = options.files.is_none() && has_no_script_options(options);
-    may_stand.then_some(Asked::Build(Source::Ready(tree), options.outputs))
+    let asked = built_or_checked(options.check, Source::Ready(tree), options.outputs);
+    may_stand.then_some(asked)
 }
 
 /// The listing of a tree.

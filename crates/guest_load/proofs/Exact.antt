@@ -12,6 +12,7 @@ use Rattle.run_steps.specs.declared.stop.Stop.TheVariants.{Because}
 use Rattle.guest_load.specs.Words.{Asked, asked as words_asked}
 use Rattle.guest_load.specs.Job.{IsAskedJob, IsWordsJob, IsJob, CallsFor}
 use Rattle.guest_load.proofs.OneOutcome.{one_outcome}
+use Rattle.guest_load.proofs.Avoided.{job_avoids}
 
 refuses_answers : (status : Status) (message : List ℕ) (outcome : Outcome) → Agree (Refuses status message) outcome → Answers status outcome
 refuses_answers status message (Refuses wanted other) agree = agree.0
@@ -75,6 +76,9 @@ module _ (called : Outcome → Type 0) (before after : Counts) (status : Status)
   pub longer_for : status ≡ statuses.Longer → Rose before.2 after.2 × called (Refuses status message)
   longer_for is = let c = cause_at statuses.Longer is in (c.0, back statuses.Longer is c.1)
 
+  pub differs_for : status ≡ statuses.Differs → called (Refuses statuses.Differs message)
+  differs_for is = cause_at statuses.Differs is
+
   pub read_for : status ≡ statuses.Read → (Rose before.0 after.0 × IsReadFailure message) ⊎ (Rose before.1 after.1 × called (Refuses status message))
   read_for is = by (cause_at statuses.Read is)
     where
@@ -97,7 +101,7 @@ module _ (words : List (List ℕ)) (told : Option (List File)) (asked : Asked) (
   exact_stop statuses.Memory message cause = elim cause [ ]
   exact_stop statuses.Words message cause = elim cause [ ]
   exact_stop statuses.Write message cause = elim cause [ ]
-  exact_stop statuses.Differs message cause = elim cause [ ]
+  exact_stop statuses.Differs message cause = absurd (job_avoids told asked message cause)
 
   pub exact_stopped : {A : Type 0} (result : Result A Stop) (stop : Stop) (status : Status) (message : List ℕ) → IfErr result (λ s. IsDue (IsAskedJob told asked) before after s)
       → result ≡ Err stop → stop ≡ Because status message → Exact words told (Rose before.0 after.0) status

@@ -6,6 +6,7 @@ pub mod RamdiskLemmas
 pub mod PartSteps
 pub mod LoadingLemmas
 pub mod OneOutcome
+pub mod Avoided
 pub mod Exact
 pub mod PlaceLemmas
 pub mod Loaded

@@ -24,10 +24,10 @@ IsGuest told name guest = IsTreeFile told name guest.0 × (first_bank guest.0.ro
 abbrev pub IsKernel : Option (List File) → List ℕ → ImageHead × ℕ → Type 0
 IsKernel told name kernel = (file : List ℕ) × IsReading told name kernel_limit (Ok file) × (image_head file ≡ Some kernel.0) × (kernel.1 ≡ length file)
 
-bank_step : (name : List ℕ) (tree : FlatTree) → IsStep (λ bank. first_bank tree.root ≡ Some bank) (AfterBank name tree)
+pub bank_step : (name : List ℕ) (tree : FlatTree) → IsStep (λ bank. first_bank tree.root ≡ Some bank) (AfterBank name tree)
 bank_step name tree = on_option_step (IsRefusal statuses.Refused (no_bank_message name)) (λ outputs report p. p) (first_bank tree.root)
 
-head_step : (name bytes : List ℕ) → IsStep (λ head. image_head bytes ≡ Some head) (AfterHead name bytes)
+pub head_step : (name bytes : List ℕ) → IsStep (λ head. image_head bytes ≡ Some head) (AfterHead name bytes)
 head_step name bytes = on_option_step (IsRefusal statuses.Format (no_image_message name)) (λ outputs report p. p) (image_head bytes)
 
 module _ (told : Option (List File)) where
@@ -58,15 +58,15 @@ module _ (told : Option (List File)) where
       and_then (λ size. IsSize told name (Some size)) (λ size found. found ≡ Some size) (AfterSize told name) (λ size. hand_on (Some size)) (size_step told name) (λ size. hand_on_step (Some size))
 
   -- what follows the tree, and what follows the kernel
-  abbrev AfterTheKernel : Asked → FlatTree × Place → ImageHead × ℕ → Next Parts → Outcome → Type 0
+  abbrev pub AfterTheKernel : Asked → FlatTree × Place → ImageHead × ℕ → Next Parts → Outcome → Type 0
   AfterTheKernel asked guest kernel next outcome =
       AfterRamdisk told asked.ramdisk (λ ramdisk. next (record { tree = guest.0; bank = guest.1; head = kernel.0; kernel = kernel.1; ramdisk = ramdisk })) outcome
 
-  abbrev AfterTheTree : Asked → FlatTree × Place → Next Parts → Outcome → Type 0
+  abbrev pub AfterTheTree : Asked → FlatTree × Place → Next Parts → Outcome → Type 0
   AfterTheTree asked guest next outcome = AfterKernel told asked.kernel (λ kernel. AfterTheKernel asked guest kernel next) outcome
 
   module _ (asked : Asked) where
-    abbrev the_parts : FlatTree × Place → ImageHead × ℕ → Option ℕ → Parts
+    abbrev pub the_parts : FlatTree × Place → ImageHead × ℕ → Option ℕ → Parts
     the_parts guest kernel ramdisk = record { tree = guest.0; bank = guest.1; head = kernel.0; kernel = kernel.1; ramdisk = ramdisk }
 
     abbrev FoundRamdisk : FlatTree × Place → ImageHead × ℕ → Parts → Type 0

@@ -11,6 +11,7 @@ use Rattle.dl_base.specs.declared.files.FileError.{FileError}
 use Rattle.dl_base.specs.declared.ranges.FrameRange.{FrameRange}
 use Rattle.dl_base.specs.declared.ranges.MapRange.{MapRange}
 use Rattle.frame_alloc.proofs.FreeFrames.{is_in_cons}
+use Rattle.frame_ranges.proofs.CommonFrames.{or_right}
 use Rattle.stage2_walk.specs.Pages.{Page, frames_of}
 use Rattle.stage2_walk.specs.Files.{image_of}
 use Rattle.stage2_walk.specs.declared.image_fault.ImageFault.{ImageFault}
@@ -18,7 +19,7 @@ use Rattle.domain_plan.specs.declared.planned.GuestPlan.{GuestPlan}
 use Rattle.guest_images.specs.Walks.{tables_in}
 use Rattle.run_steps.specs.Endings.{Outcome}
 use Rattle.run_steps.specs.Steps.{OnResult, IsReadRefusal, nothing}
-use Rattle.image_audit.specs.Findings.{tear, difference, table_where, finding, is_mapped}
+use Rattle.image_audit.specs.Findings.{tear, difference, table_where, audit_finding, is_mapped}
 use Rattle.image_audit.specs.Texts.{frame_text, table_mapped, table_shared}
 use Rattle.image_audit.specs.Audits.{image_limit, image_file, has_table, IsImageRefusal, UnlessFound, AfterImage, AfterAudit, AfterLater, AfterAudits, IsSound, IsAudited, AreAudited}
 use Rattle.image_audit.specs.Rests.{is_outside, IsRest, IsLeft}
@@ -39,10 +40,6 @@ found_alike f g (x ∷ xs) agree =
     self : (a : ℕ) → eqb a a ≡ true
     self a = elim (eqb_tells a a) [ inl h ↦ h.0 | inr h ↦ absurd (h.1 refl) ]
 
-    or_right : (a b : Bool) → b ≡ true → (a || b) ≡ true
-    or_right true b h = refl
-    or_right false b h = h
-
 module _ (mapped other_mapped earlier other_earlier : ℕ → Bool) (same_mapped : AgreeLow mapped other_mapped) (same_earlier : AgreeLow earlier other_earlier) (ranges : List MapRange) where
   -- find the same in an image
   module _ (bytes : List ℕ) (root : ℕ) (pages : List Page) (is : image_of bytes ≡ Ok (root, pages)) where
@@ -50,7 +47,7 @@ module _ (mapped other_mapped earlier other_earlier : ℕ → Bool) (same_mapped
     unfolding table_where
     same_table name f g agree = ap (option_map (frame_text name)) (found_alike f g (frames_of pages) (λ frame there. agree frame (frame_low bytes root pages is frame there)))
 
-    pub same_finding : finding mapped earlier ranges pages root ≡ finding other_mapped other_earlier ranges pages root
+    pub same_finding : audit_finding mapped earlier ranges pages root ≡ audit_finding other_mapped other_earlier ranges pages root
     same_finding =
         ap (λ (t : Option (List ℕ)). option_or (tear pages root) (option_or (difference ranges pages root) (option_or t (table_where table_shared earlier pages)))) (same_table table_mapped mapped other_mapped same_mapped)
         ∙ ap (λ (t : Option (List ℕ)). option_or (tear pages root) (option_or (difference ranges pages root) (option_or (table_where table_mapped other_mapped pages) t))) (same_table table_shared earlier other_earlier same_earlier)
@@ -59,8 +56,8 @@ module _ (mapped other_mapped earlier other_earlier : ℕ → Bool) (same_mapped
   same_sound bytes sound = record { root = sound.root; pages = sound.pages; image = sound.image; nothing_found = sym (same_finding bytes sound.root sound.pages sound.image) ∙ sound.nothing_found }
 
   same_image : (name bytes : List ℕ) (outcome : Outcome) (answer : Result (ℕ × List Page) ImageFault) → image_of bytes ≡ answer
-      → OnResult (IsImageRefusal name) (λ image. UnlessFound name (nothing bytes) (finding mapped earlier ranges image.1 image.0)) answer outcome
-      → OnResult (IsImageRefusal name) (λ image. UnlessFound name (nothing bytes) (finding other_mapped other_earlier ranges image.1 image.0)) answer outcome
+      → OnResult (IsImageRefusal name) (λ image. UnlessFound name (nothing bytes) (audit_finding mapped earlier ranges image.1 image.0)) answer outcome
+      → OnResult (IsImageRefusal name) (λ image. UnlessFound name (nothing bytes) (audit_finding other_mapped other_earlier ranges image.1 image.0)) answer outcome
   same_image name bytes outcome (Ok (root, pages)) is p = subst (λ (text : Option (List ℕ)). UnlessFound name (nothing bytes) text outcome) (same_finding bytes root pages is) p
   same_image name bytes outcome (Err fault) is p = p
 

@@ -13,7 +13,7 @@ use Rattle.run_steps.specs.Steps.{OnResult, IsReading, AfterReading, nothing}
 use Rattle.run_steps.proofs.Step.{Next, IsStep, Avoids, said_as, and_then, hand_on_step, on_result_step, both_avoid, hand_on_avoids}
 use Rattle.run_steps.proofs.ReadingSteps.{reading_step, reading_avoids}
 use Rattle.run_steps.proofs.OneOutcome.{Decides, both_decide, hand_on_decides, refusals_agree, on_result_decides, reading_decides}
-use Rattle.image_audit.specs.Findings.{finding, is_mapped}
+use Rattle.image_audit.specs.Findings.{audit_finding, is_mapped}
 use Rattle.image_audit.specs.Audits.{image_limit, image_file, has_table, IsImageRefusal, UnlessFound, AfterImage, AfterAudit, AfterLater, AfterAudits, IsSound, IsAudited, AreAudited}
 
 -- ---- what is found is refused
@@ -63,13 +63,13 @@ module _ (name : List ℕ) (mapped earlier : ℕ → Bool) (ranges : List MapRan
   tested next outcome = OnResult (IsImageRefusal name) next (image_of bytes) outcome
 
   abbrev audited : ℕ × List Page → Next (List ℕ) → Outcome → Type 0
-  audited image = unless name bytes (finding mapped earlier ranges image.1 image.0)
+  audited image = unless name bytes (audit_finding mapped earlier ranges image.1 image.0)
 
   abbrev Tested : ℕ × List Page → Type 0
   Tested image = image_of bytes ≡ Ok image
 
   abbrev NoneFound : ℕ × List Page → List ℕ → Type 0
-  NoneFound image = NothingFound name bytes (finding mapped earlier ranges image.1 image.0)
+  NoneFound image = NothingFound name bytes (audit_finding mapped earlier ranges image.1 image.0)
 
   abbrev SoundBytes : List ℕ → Type 0
   SoundBytes image = (image ≡ bytes) × IsSound mapped earlier ranges bytes
@@ -80,7 +80,7 @@ module _ (name : List ℕ) (mapped earlier : ℕ → Bool) (ranges : List MapRan
   pub image_step : IsStep SoundBytes (AfterImage name mapped earlier ranges bytes)
   image_step =
       said_as (λ image. (read : ℕ × List Page) × Tested read × NoneFound read image) SoundBytes (AfterImage name mapped earlier ranges bytes)
-      (and_then Tested NoneFound tested audited tested_step (λ image. unless_step name bytes (finding mapped earlier ranges image.1 image.0)))
+      (and_then Tested NoneFound tested audited tested_step (λ image. unless_step name bytes (audit_finding mapped earlier ranges image.1 image.0)))
       (λ image found. (found.2.0, record { root = found.0.0; pages = found.0.1; image = found.1; nothing_found = found.2.1 }))
       (λ image sound. ((sound.1.root, sound.1.pages), sound.1.image, (sound.0, sound.1.nothing_found)))
 
@@ -92,10 +92,10 @@ module _ (name : List ℕ) (mapped earlier : ℕ → Bool) (ranges : List MapRan
   tested_avoids_in (Err fault) message p = no_item_format p.0
 
   pub image_avoids : Avoids statuses.Refused (AfterImage name mapped earlier ranges bytes)
-  image_avoids = both_avoid Tested statuses.Refused tested audited tested_step (tested_avoids_in (image_of bytes)) (λ image. unless_avoids name bytes (finding mapped earlier ranges image.1 image.0))
+  image_avoids = both_avoid Tested statuses.Refused tested audited tested_step (tested_avoids_in (image_of bytes)) (λ image. unless_avoids name bytes (audit_finding mapped earlier ranges image.1 image.0))
 
   pub image_decides : Decides (AfterImage name mapped earlier ranges bytes)
-  image_decides = both_decide tested audited (on_result_decides (IsImageRefusal name) (λ fault. refusals_agree _ _) (image_of bytes)) (λ image. unless_decides name bytes (finding mapped earlier ranges image.1 image.0))
+  image_decides = both_decide tested audited (on_result_decides (IsImageRefusal name) (λ fault. refusals_agree _ _) (image_of bytes)) (λ image. unless_decides name bytes (audit_finding mapped earlier ranges image.1 image.0))
 
 -- ---- an image from its file
 

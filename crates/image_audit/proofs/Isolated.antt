@@ -6,6 +6,7 @@ use Rattle.std.specs.Option.{option_or}
 use Rattle.std.proofs.lemmas.Bool.{cases_order}
 use Rattle.std.proofs.lemmas.Bool.Decides.{eqb_tells}
 use Rattle.std.proofs.lemmas.List.Elements.{All-head, All-tail}
+use Rattle.std.proofs.lemmas.Option.{same_Some}
 use Rattle.std.proofs.lemmas.List.Folds.{list_any-append}
 use Rattle.dl_base.specs.Consecutive.{is_in}
 use Rattle.dl_base.specs.Maps.{Target, target_of, holds_page, AreMapRanges, AreMerged}
@@ -14,7 +15,7 @@ use Rattle.dl_base.specs.declared.ranges.MapRange.{MapRange}
 use Rattle.dl_base.proofs.RunLemmas.{holds_tells}
 use Rattle.frame_alloc.specs.Frames.{is_within}
 use Rattle.frame_alloc.proofs.FreeFrames.{is_in_nil, is_in_cons}
-use Rattle.frame_ranges.proofs.CommonFrames.{within_tells}
+use Rattle.frame_ranges.proofs.CommonFrames.{within_tells, or_left, or_right, or_none}
 use Rattle.stage2_walk.specs.Pages.{Page, frames_of}
 use Rattle.stage2_walk.specs.Files.{image_of}
 use Rattle.stage2_walk.specs.Runs.{map_of}
@@ -124,14 +125,6 @@ module _ (plans : List GuestPlan) where
   no_table_mapped before (plan ∷ later) (image ∷ images) are zero frame there = not_mapped (is_mapped plans) (has_table before) plan.ranges image are.0 frame there
   no_table_mapped before (plan ∷ later) (image ∷ images) are (suc n) frame there = no_table_mapped (before ++ image ∷ []) later images are.1 n frame there
 
-  or_left : (a b : Bool) → (a || b) ≡ false → a ≡ false
-  or_left true b e = e
-  or_left false b e = refl
-
-  or_right : (a b : Bool) → (a || b) ≡ false → b ≡ false
-  or_right true b e = absurd (true≢false e)
-  or_right false b e = e
-
   has-last : (before : List (List ℕ)) (image : List ℕ) (frame : ℕ) → has_table (before ++ image ∷ []) frame ≡ (has_table before frame || (is_in (tables_in (image_of image)) frame || false))
   has-last before image frame = list_any-append (λ (image : List ℕ). is_in (tables_in (image_of image)) frame) before (image ∷ [])
 
@@ -141,7 +134,7 @@ module _ (plans : List GuestPlan) where
   no_table_before before (plan ∷ later) [] are n frame there = elim are [ ]
   no_table_before before (plan ∷ later) (image ∷ images) are zero frame there = not_earlier (is_mapped plans) (has_table before) plan.ranges image are.0 frame there
   no_table_before before (plan ∷ later) (image ∷ images) are (suc n) frame there =
-      or_left (has_table before frame) (is_in (tables_in (image_of image)) frame || false) (sym (has-last before image frame) ∙ no_table_before (before ++ image ∷ []) later images are.1 n frame there)
+      (or_none (has_table before frame) (is_in (tables_in (image_of image)) frame || false) (sym (has-last before image frame) ∙ no_table_before (before ++ image ∷ []) later images are.1 n frame there)).0
 
   -- so no two images have a table in one frame
   tables_apart : (before : List (List ℕ)) (later : List GuestPlan) (images : List (List ℕ)) → AllSound plans before later images → (n m frame : ℕ) → n < m → is_in (tables_of images n) frame ≡ true → is_in (tables_of images m) frame ≡ true → ⊥
@@ -149,8 +142,8 @@ module _ (plans : List GuestPlan) where
   tables_apart before (plan ∷ later) [] are n m frame less one other = elim are [ ]
   tables_apart before (plan ∷ later) (image ∷ images) are n zero frame less one other = absurd (omega arith)
   tables_apart before (plan ∷ later) (image ∷ images) are zero (suc m) frame less one other =
-      true≢false (sym one ∙ or_left (is_in (tables_in (image_of image)) frame) false
-      (or_right (has_table before frame) (is_in (tables_in (image_of image)) frame || false) (sym (has-last before image frame) ∙ no_table_before (before ++ image ∷ []) later images are.1 m frame other)))
+      let none = or_none (has_table before frame) (is_in (tables_in (image_of image)) frame || false) (sym (has-last before image frame) ∙ no_table_before (before ++ image ∷ []) later images are.1 m frame other) in
+      true≢false (sym one ∙ (or_none (is_in (tables_in (image_of image)) frame) false none.1).0)
   tables_apart before (plan ∷ later) (image ∷ images) are (suc n) (suc m) frame less one other = tables_apart (before ++ image ∷ []) later images are.1 n m frame (omega arith) one other
 
 -- ---- a frame that some plan maps
@@ -164,36 +157,24 @@ within_it first count frame low high = elim (within_tells first count frame) [
 abbrev any_range : List MapRange → ℕ → Bool
 any_range ranges frame = list_any (λ (range : MapRange). is_within range.first range.count frame) ranges
 
+same_frame : (one other : Target) → Some one ≡ Some other → one.frame ≡ other.frame
+same_frame one other e = ap (λ (target : Target). target.frame) (same_Some one other e)
+
 mapped_by : (ranges : List MapRange) (page : ℕ) (target : Target) → target_of ranges page ≡ Some target → any_range ranges target.frame ≡ true
 mapped_by [] page target e = absurd (cc)
 mapped_by (range ∷ ranges) page target e = by (holds_tells range page) (mapped_by ranges page target)
   where
-    or_one : (a b : Bool) → a ≡ true → (a || b) ≡ true
-    or_one true b h = refl
-    or_one false b h = absurd (true≢false (sym h))
-
-    or_other : (a b : Bool) → b ≡ true → (a || b) ≡ true
-    or_other true b h = refl
-    or_other false b h = h
-
-    same_frame : (frame other : ℕ) (one two : Target) → Some one ≡ Some two → one.frame ≡ two.frame
-    same_frame frame other one two e = ap (λ (o : Option Target). elim o as (λ _. ℕ) [ Some t ↦ t.frame | None ↦ 0 ]) e
-
     by : ((holds_page range page ≡ true) × (range.page ≤ page) × (page < range.page + range.count)) ⊎ ((holds_page range page ≡ false) × ((page < range.page) ⊎ (range.page + range.count ≤ page)))
         → (target_of ranges page ≡ Some target → any_range ranges target.frame ≡ true) → any_range (range ∷ ranges) target.frame ≡ true
     by (inl h) rest =
-        let here : range.first + (page - range.page) ≡ target.frame = same_frame 0 0 (record { frame = range.first + (page - range.page); kind = range.kind }) target (rw h.0 at e) in
-        or_one (is_within range.first range.count target.frame) (any_range ranges target.frame) (within_it range.first range.count target.frame (omega arith) (omega arith))
-    by (inr h) rest = or_other (is_within range.first range.count target.frame) (any_range ranges target.frame) (rest (rw h.0 at e))
+        let here : range.first + (page - range.page) ≡ target.frame = same_frame (record { frame = range.first + (page - range.page); kind = range.kind }) target (rw h.0 at e) in
+        or_left (is_within range.first range.count target.frame) (any_range ranges target.frame) (within_it range.first range.count target.frame (omega arith) (omega arith))
+    by (inr h) rest = or_right (is_within range.first range.count target.frame) (any_range ranges target.frame) (rest (rw h.0 at e))
 
 planned_mapped : (plans : List GuestPlan) (n page : ℕ) (target : Target) → target_in plans n page ≡ Some target → is_mapped plans target.frame ≡ true
 planned_mapped [] n page target e = absurd (cc)
-planned_mapped (plan ∷ plans) zero page target e = rw (mapped_by plan.ranges page target e) refl
-planned_mapped (plan ∷ plans) (suc n) page target e = or_other (any_range plan.ranges target.frame) (is_mapped plans target.frame) (planned_mapped plans n page target e)
-  where
-    or_other : (a b : Bool) → b ≡ true → (a || b) ≡ true
-    or_other true b h = refl
-    or_other false b h = h
+planned_mapped (plan ∷ plans) zero page target e = or_left (any_range plan.ranges target.frame) (is_mapped plans target.frame) (mapped_by plan.ranges page target e)
+planned_mapped (plan ∷ plans) (suc n) page target e = or_right (any_range plan.ranges target.frame) (is_mapped plans target.frame) (planned_mapped plans n page target e)
 
 -- ---- what an audit promises
 

@@ -15,7 +15,7 @@ use Rattle.run_steps.specs.Messages.{file_message}
 use Rattle.run_steps.specs.Names.{joined}
 use Rattle.run_steps.specs.Steps.{IsRefusal, OnResult, IsReading, AfterReading}
 use Rattle.build_outputs.specs.Names.{image_name}
-use Rattle.image_audit.specs.Findings.{finding, is_mapped}
+use Rattle.image_audit.specs.Findings.{audit_finding, is_mapped}
 use Rattle.image_audit.specs.Texts.{image_fault_text}
 
 -- the longest image that is read, in bytes
@@ -42,7 +42,7 @@ UnlessFound name next (Some text) outcome = IsRefusal statuses.Differs (file_mes
 -- the bytes of a guest's image: its format is tested, it is audited against these ranges and these two tests of frames, and then it is handed on
 abbrev pub AfterImage : List ℕ → (ℕ → Bool) → (ℕ → Bool) → List MapRange → List ℕ → (List ℕ → Outcome → Type 0) → Outcome → Type 0
 AfterImage name mapped earlier ranges bytes next outcome =
-    OnResult (IsImageRefusal name) (λ image. UnlessFound name (next bytes) (finding mapped earlier ranges image.1 image.0)) (image_of bytes) outcome
+    OnResult (IsImageRefusal name) (λ image. UnlessFound name (next bytes) (audit_finding mapped earlier ranges image.1 image.0)) (image_of bytes) outcome
 
 -- the image of a guest is read from a file in a folder, where one is given, and audited
 abbrev pub AfterAudit : Option (List File) → Option (List ℕ) → (ℕ → Bool) → (ℕ → Bool) → GuestPlan → (List ℕ → Outcome → Type 0) → Outcome → Type 0
@@ -64,7 +64,7 @@ pub record IsSound (mapped earlier : ℕ → Bool) (ranges : List MapRange) (byt
   pub root : ℕ
   pub pages : List Page
   pub image : image_of bytes ≡ Ok (root, pages)
-  pub nothing_found : finding mapped earlier ranges pages root ≡ None
+  pub nothing_found : audit_finding mapped earlier ranges pages root ≡ None
 
 -- these bytes were read as the image of a guest, and nothing is found in them
 pub record IsAudited (told : Option (List File)) (folder : Option (List ℕ)) (mapped earlier : ℕ → Bool) (plan : GuestPlan) (bytes : List ℕ) : Type 0 where

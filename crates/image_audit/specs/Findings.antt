@@ -46,8 +46,8 @@ abbrev pub is_mapped : List GuestPlan → ℕ → Bool
 is_mapped plans frame = list_any (λ (plan : GuestPlan). list_any (λ (range : MapRange). is_within range.first range.count frame) plan.ranges) plans
 
 -- The first finding in an image: a tear; a page that goes elsewhere than these ranges; a table in a frame that is mapped; a table in a frame of an earlier image.
-abbrev pub finding : (ℕ → Bool) → (ℕ → Bool) → List MapRange → List Page → ℕ → Option (List ℕ)
-finding mapped earlier ranges pages root =
+abbrev pub audit_finding : (ℕ → Bool) → (ℕ → Bool) → List MapRange → List Page → ℕ → Option (List ℕ)
+audit_finding mapped earlier ranges pages root =
     option_or (tear pages root)
     (option_or (difference ranges pages root)
     (option_or (table_where table_mapped mapped pages) (table_where table_shared earlier pages)))

@@ -9,7 +9,7 @@ ghost use Rattle.guest_images.specs.Walks.{tables_in};
 ghost use Rattle.run_steps.specs.Steps.{nothing};
 ghost use Rattle.run_steps.specs.Stops.{Grew, IsDue, IsOwnDue};
 ghost use Rattle.image_audit.specs.Audits.{AfterAudit, AfterAudits, AfterImage, IsAudited, FindsNothing, IsSound, UnlessFound};
-ghost use Rattle.image_audit.specs.Findings.{finding};
+ghost use Rattle.image_audit.specs.Findings.{audit_finding};
 ghost use Rattle.image_audit.specs.Rests.{is_outside, IsLeft};
 
 use crate::finding::find_finding;
@@ -134,9 +134,9 @@ fn audit_tables(
     requires merged { AreMerged ranges.now }
     requires unmapped { AreFrameRanges unmapped.now }
     requires free { AreFrameRanges free.now }
-    ensures sound { OnOk result (finding (is_outside unmapped.now) (is_outside free.now) ranges.now image.pages image.root ≡ None) }
+    ensures sound { OnOk result (audit_finding (is_outside unmapped.now) (is_outside free.now) ranges.now image.pages image.root ≡ None) }
     ensures left { IfOk result (λ left. IsLeft free.now (frames_of image.pages) left) }
-    ensures stopped { IfErr result (λ stop. IsOwnDue (UnlessFound name.now (λ _. ⊥) (finding (is_outside unmapped.now) (is_outside free.now) ranges.now image.pages image.root)) stop) }
+    ensures stopped { IfErr result (λ stop. IsOwnDue (UnlessFound name.now (λ _. ⊥) (audit_finding (is_outside unmapped.now) (is_outside free.now) ranges.now image.pages image.root)) stop) }
 {
     let mut words = Counted::new(image);
     if let Some(text) = find_finding(alloc, &mut words, ranges, unmapped, free)? {

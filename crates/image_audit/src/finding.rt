@@ -5,7 +5,7 @@ ghost use Rattle.dl_base.specs.Maps.{AreMapRanges, AreMerged};
 ghost use Rattle.frame_alloc.specs.Frames.{AreFrameRanges};
 ghost use Rattle.stage2_walk.specs.Pages.{page_of};
 ghost use Rattle.stage2_walk.specs.Runs.{mapped_runs};
-ghost use Rattle.image_audit.specs.Findings.{difference, finding, table_where};
+ghost use Rattle.image_audit.specs.Findings.{difference, audit_finding, table_where};
 ghost use Rattle.image_audit.specs.Texts.{table_mapped, table_shared};
 ghost use Rattle.image_audit.specs.Rests.{is_outside};
 
@@ -31,7 +31,7 @@ pub(crate) fn find_finding(
     requires merged { AreMerged ranges.now }
     requires unmapped { AreFrameRanges unmapped.now }
     requires free { AreFrameRanges free.now }
-    ensures found { IfOk result (λ found. found ≡ finding (is_outside unmapped.now) (is_outside free.now) ranges.now words.old.image.pages words.old.image.root) }
+    ensures found { IfOk result (λ found. found ≡ audit_finding (is_outside unmapped.now) (is_outside free.now) ranges.now words.old.image.pages words.old.image.root) }
     ensures pages { words.new.image.pages ≡ words.old.image.pages }
 {
     match runs(alloc, words) {

@@ -6,10 +6,10 @@ use Rattle.run_steps.specs.Outputs.{files_of, report_of}
 use Rattle.run_steps.proofs.Taken.{and_files-none}
 use Rattle.dl_base.specs.Outside.{and_bytes}
 use Rattle.dom0less_words.specs.Meant.{meant}
-use Rattle.dom0less_words.specs.Words.{Asked}
+use Rattle.dom0less_words.specs.Words.{Asked, Check}
 use Rattle.dom0less.specs.Job.{IsSettingsJob}
 use Rattle.dom0less.proofs.Exact.{words_call, exact_build, exact_stopped, same_build}
-use Rattle.dom0less.proofs.Promises.{listed, scripted, stop_names}
+use Rattle.dom0less.proofs.Promises.{listed, scripted, promised_for, stop_names}
 use Rattle.dom0less.proofs.top.run.Goals as goal
 
 pub returns-in-Ok-prepare-clause-listing : goal.returns-in-Ok-prepare-clause-listing
@@ -68,3 +68,11 @@ returns-in-Ok-prepare-clause-complete g c =
     (λ outputs report. c.write_all.result ≡ statuses.Built → (g.O.Outs.written c.write_all.new.outs ≡ and_files (g.O.Outs.written c.args.outs.now) outputs) × (g.S.Sink.taken c.write_all.new.out ≡ and_bytes (g.S.Sink.taken c.args.out.now) report))
     (words_call (map string_bytes c.args.words.now) (g.F.Files.held c.args.files.now) (meant c.in-Ok.asked) (Builds (files_of build) (report_of build)) (sym c.in-Ok.ensures.asked) c.in-Ok-prepare.ensures.built)
     (λ is_built. let written = c.write_all.ensures.built is_built in (written.0, written.1))
+
+pub returns-in-Ok-prepare-clause-audit : goal.returns-in-Ok-prepare-clause-audit
+returns-in-Ok-prepare-clause-audit g c = λ source folder asks is_built.
+    let told = g.F.Files.held c.args.files.now in
+    let build = c.in-Ok-prepare.build in
+    let written = c.write_all.ensures.built is_built in
+    let promised = promised_for told (map string_bytes c.args.words.now) (meant c.in-Ok.asked) (Check source folder) (files_of build) (report_of build) c.in-Ok.ensures.asked asks c.in-Ok-prepare.ensures.promised in
+    (report_of build, promised.1, written.0 ∙ ap (and_files _) promised.0 ∙ and_files-none _, written.1)

@@ -6,7 +6,8 @@ use Rattle.guest_load.specs.Job.{IsAskedJob, IsWordsJob}
 use Rattle.guest_load.specs.Meant.{meant}
 use Rattle.run_steps.specs.Outputs.{files_of, report_of}
 use Rattle.guest_load.specs.Words.{Asked}
-use Rattle.guest_load.proofs.Exact.{words_call, exact_build, exact_stopped, cause_of, refused_for, format_for, longer_for, read_for}
+use Rattle.guest_load.proofs.Exact.{words_call, exact_build, exact_stopped, cause_of, refused_for, format_for, longer_for, read_for, differs_for}
+use Rattle.guest_load.proofs.Avoided.{job_avoids}
 use Rattle.guest_load.proofs.Loaded.{loaded, fit_in}
 use Rattle.guest_load.proofs.top.run.Goals as goal
 
@@ -74,3 +75,10 @@ returns-in-Err-Because-clause-read g c = λ is.
     let cause = cause_of job _ _ c.prepare.result c.in-Err-Because.field-0 c.in-Err-Because.status c.in-Err-Because.message c.prepare.ensures.stopped c.in-Err-Because.is c.in-Err-Because.field-0-is in
     let refuses = Refuses c.in-Err-Because.status c.in-Err-Because.message in
     (c.in-Err-Because.message, rw (c.as_slice.ensures) at c.say-in-Err-Because.ensures, elim (read_for job _ _ _ _ cause is) [ inl failed ↦ inl failed | inr absent ↦ inr (absent.0, words_call (map string_bytes c.args.words.now) told (meant c.in-Some.asked) refuses c.in-Some.ensures absent.1) ])
+
+pub returns-in-Err-Because-clause-no_audit : goal.returns-in-Err-Because-clause-no_audit
+returns-in-Err-Because-clause-no_audit g c = λ is.
+    let told = g.F.Files.held c.args.files.now in
+    let job = IsAskedJob told (meant c.in-Some.asked) in
+    let cause = cause_of job _ _ c.prepare.result c.in-Err-Because.field-0 c.in-Err-Because.status c.in-Err-Because.message c.prepare.ensures.stopped c.in-Err-Because.is c.in-Err-Because.field-0-is in
+    job_avoids told (meant c.in-Some.asked) c.in-Err-Because.message (differs_for job _ _ _ _ cause is)

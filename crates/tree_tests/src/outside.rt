@@ -1,4 +1,4 @@
-// The trusted edge: what the adapters do at the real file system.
+// The adapters at the real file system: that files are written, measured and read while memory is left, and how they are missed.
 use dl_base::{FileError, Files, Outs, SizeError};
 use real_outside::Folder;
 use std::fs;
