@@ -32,7 +32,12 @@ const READY: [u64; 3] = [0x4000_0000, 0x5000_0000, 0x80_0000_0000];
 fn main(rt: HostRuntime) -> io::Result<()> {
     let mut files = read_files(&rt, &FILES)?;
     let configured = run_job(rt.alloc(), &mut files, &["-c", "imagebuilder.cfg"])?;
-    show_job(&rt, "dom0less -c imagebuilder.cfg", &configured, &CONFIGURED)?;
+    show_job(
+        &rt,
+        "dom0less -c imagebuilder.cfg",
+        &configured,
+        &CONFIGURED,
+    )?;
     let ready = run_job(rt.alloc(), &mut files, &["-b", "guests.dtb"])?;
     show_job(&rt, "dom0less -b guests.dtb", &ready, &READY)
 }

@@ -44,11 +44,7 @@ fn show_output(
 }
 
 /// Shows what stands in the header of an image, and where addresses below 2^40 are walked to.
-fn show_image(
-    rt: &(impl Print + AllocGlobal),
-    image: &Image,
-    addresses: &[u64],
-) -> io::Result<()> {
+fn show_image(rt: &(impl Print + AllocGlobal), image: &Image, addresses: &[u64]) -> io::Result<()> {
     let root = image.root();
     let tables = image.page_count();
     println!(rt; "  root frame {root:#x}, {tables} tables")?;
