@@ -134,3 +134,33 @@ def difference(wanted, found):
         if dict(wanted.get(path, [("no such node", b"")])) != dict(found.get(path, [("no such node", b"")])):
             return f"{path}: {wanted.get(path)} by the script, {found.get(path)} in U-Boot"
     return None
+
+
+def spelled(node, name, offset_of):
+    """The tokens of a node, by the Devicetree Specification, 5.4."""
+    def padded(data):
+        return data + bytes(-len(data) % 4)
+
+    out = [struct.pack(">I", 1), padded(name.encode() + b"\0")]
+    for prop, value in node.props.items():
+        out += [struct.pack(">3I", 3, len(value), offset_of(prop)), padded(value)]
+    for child_name, child in node.children.items():
+        out += spelled(child, child_name, offset_of)
+    return out + [struct.pack(">I", 2)]
+
+
+def written(root, reserved=b""):
+    """The file of a tree with these entries of reserved memory."""
+    strings, offsets = bytearray(), {}
+
+    def offset_of(prop):
+        if prop not in offsets:
+            offsets[prop] = len(strings)
+            strings.extend(prop.encode() + b"\0")
+        return offsets[prop]
+
+    block = b"".join(spelled(root, "", offset_of)) + struct.pack(">I", 9)
+    start = 56 + len(reserved)
+    end = start + len(block)
+    head = [0xD00DFEED, end + len(strings), start, end, 40, 17, 16, 0, len(strings), len(block)]
+    return struct.pack(">10I", *head) + reserved + bytes(16) + block + bytes(strings)
