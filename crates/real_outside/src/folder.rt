@@ -1,10 +1,12 @@
 // Files and outputs of the file system. No contents are told; each kind of failure is counted.
-ghost use Rattle.std.specs.Prelude.{◌≤◌, IfOk, None, length};
+ghost use Rattle.std.specs.Prelude.{◌≡◌, ◌≤◌, IfOk, None, length};
 
+use crate::replaced::write_whole;
 use dl_base::{Failed, FileError, Outs, SizeError};
 use std::alloc::Global;
 use std::fs;
-use std::io::{ErrorKind, Read, Write};
+use std::io::{ErrorKind, Read};
+use std::marker::Model;
 use std::rt::Files;
 
 /// Files and outputs by their paths, with a count of each kind of failure, which stands still at its last value.
@@ -16,9 +18,19 @@ pub struct Folder<'a, R> {
     overlong: u64,
 }
 
+impl<'a, R> Model for Folder<'a, R> {
+    ghost use Rattle.real_outside.specs.Counts.{FailureCounts};
+
+    ghost Value = { FailureCounts };
+
+    ghost view = { λ folder. record { faults = folder.faults; absents = folder.absents; overlong = folder.overlong } };
+}
+
 impl<'a, R: Files> Folder<'a, R> {
     /// The file system, with no failure yet.
-    pub fn new(rt: &'a R) -> Folder<'a, R> {
+    pub fn new(rt: &'a R) -> Folder<'a, R>
+        ensures { result ≡ record { faults = 0; absents = 0; overlong = 0 } }
+    {
         Folder {
             rt,
             faults: 0,
@@ -28,9 +40,10 @@ impl<'a, R: Files> Folder<'a, R> {
     }
 }
 
-/// Why a file could not be reached.
+/// Why a file could not be reached: nothing has the name, be it that its path leads through what is no folder, or the call
+/// failed.
 fn missed(kind: ErrorKind) -> SizeError {
-    if kind == ErrorKind::NotFound {
+    if kind == ErrorKind::NotFound || kind == ErrorKind::NotADirectory {
         SizeError::Absent
     } else {
         SizeError::Failed
@@ -101,7 +114,7 @@ impl<R: Files> dl_base::Files for Folder<'_, R> {
     }
 }
 
-impl<R: Files> Outs for Folder<'_, R> {
+impl<R: Files + AllocGlobal> Outs for Folder<'_, R> {
     ghost written = { λ _. None };
 
     ghost room = { λ _. None };
@@ -109,11 +122,7 @@ impl<R: Files> Outs for Folder<'_, R> {
     ghost faults = { λ folder. folder.faults };
 
     fn write(&mut self, name: &str, bytes: &[u8]) -> Result<(), Failed> {
-        let written = match fs::create(self.rt, name) {
-            Ok(mut file) => file.write_all(bytes).is_ok(),
-            Err(_) => false,
-        };
-        if written {
+        if write_whole(self.rt, self.rt.alloc(), name, bytes) {
             return Ok(());
         }
         self.faults = self.faults.saturating_add(1);

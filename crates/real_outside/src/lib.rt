@@ -3,6 +3,7 @@
 
 mod command_line;
 mod folder;
+mod replaced;
 mod stream;
 
 pub use command_line::{unread_words, words};

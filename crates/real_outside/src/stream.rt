@@ -1,8 +1,9 @@
 // Standard output and standard error. No bytes are told; failures are counted.
-ghost use Rattle.std.specs.Prelude.{None};
+ghost use Rattle.std.specs.Prelude.{◌≡◌, None};
 
 use dl_base::{Failed, Sink};
 use std::io::Write;
+use std::marker::Model;
 
 /// A writer with a count of its failures, which stands still at its last value.
 #[derive(Drop)]
@@ -11,9 +12,19 @@ pub struct Stream<W> {
     faults: u64,
 }
 
+impl<W> Model for Stream<W> {
+    ghost use Rattle.std.specs.Prelude.{ℕ};
+
+    ghost Value = { ℕ };
+
+    ghost view = { λ stream. stream.faults };
+}
+
 impl<W: Write> Stream<W> {
     /// A stream with no failure yet.
-    pub fn new(writer: W) -> Stream<W> {
+    pub fn new(writer: W) -> Stream<W>
+        ensures { result ≡ 0 }
+    {
         Stream { writer, faults: 0 }
     }
 }
@@ -23,7 +34,7 @@ impl<W: Write> Sink for Stream<W> {
 
     ghost room = { λ _. None };
 
-    ghost faults = { λ stream. stream.faults };
+    ghost faults = { λ faults. faults };
 
     fn put(&mut self, bytes: &[u8]) -> Result<(), Failed> {
         if self.writer.write_all(bytes).is_ok() && self.writer.flush().is_ok() {
