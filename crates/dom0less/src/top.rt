@@ -2,7 +2,7 @@
 ghost use Rattle.std.specs.Prelude.{◌≡◌, ◌≢◌, ◌⊎◌, ◌∷◌, [], IsNone, IfSome, Some, map, string_bytes, codes, true};
 ghost use Rattle.dl_base.specs.Outside.{Rose, and_bytes, TookPrefix};
 ghost use Rattle.run_steps.specs.Messages.{memory_message, file_message};
-ghost use Rattle.run_steps.specs.Endings.{Refuses, Builds, Said, and_files, TookUpTo};
+ghost use Rattle.run_steps.specs.Endings.{Refuses, Builds, Said, and_files, TookUpTo, HasRoom};
 ghost use Rattle.run_steps.specs.Laws.{AnswersUnless};
 ghost use Rattle.dom0less_words.specs.Command.{is_taken};
 ghost use Rattle.dom0less_words.specs.Settings.{settings};
@@ -23,9 +23,9 @@ use std::alloc::Global;
 // The program's name, with which each of its lines begins.
 const PROGRAM: &str = "dom0less";
 
-/// Builds the guests that a configuration, a script with a tree, or a ready tree describes, audits the images of
-/// such a build, writes a configuration's boot script alone, lists a tree, or builds a generated tree, as `words` say. The answer is the program's status; a line on
-/// `err` says why it is not `Built`.
+/// Builds the guests that a configuration, a script with a tree, or a ready tree describes, audits the images of such a
+/// build, writes a configuration's boot script alone, lists a tree, or builds a generated tree, as `words` say. The answer
+/// is the program's status; a line on `err` says why it is not `Built`.
 ///
 /// `words` are those of the command line, the program's name first; `dom0less_words` reads them. All bytes are made before
 /// the first write, and no memory is taken after it.
@@ -125,6 +125,11 @@ pub fn run<F: Files, O: Outs, S: Sink, E: Sink>(
         × Rose (S.faults out.old) (S.faults out.new)
         × (O.written outs.new ≡ and_files (O.written outs.old) outputs)
         × TookPrefix (S.taken out.old) (S.taken out.new) report)) }
+
+    // A write fails only where the outputs and the report that the words and the files call for find no room that is told.
+    ensures room { result ≡ Status.Write → (outputs : _) × (report : _)
+        × CallsFor (map string_bytes words.now) (F.held files.old) (Builds outputs report)
+        × (HasRoom (O.room outs.old) (S.room out.old) outputs report → ⊥) }
 
     // Where the files tell what they hold and no read failed, the answer is what they call for, or want of memory.
     ensures exact { IfSome (F.held files.old) (λ held. (outcome : _) → IsJob (map string_bytes words.now) held outcome → AnswersUnless (Rose (F.faults files.old) (F.faults files.new)) result outcome) }

@@ -2,7 +2,7 @@
 ghost use Rattle.std.specs.Prelude.{◌≡◌, ◌≢◌, ◌⊎◌, ◌↔◌, ◌∷◌, [], IsNone, IfSome, Some, map, string_bytes, codes};
 ghost use Rattle.dl_base.specs.Outside.{Rose, and_bytes, TookPrefix};
 ghost use Rattle.run_steps.specs.Messages.{memory_message, file_message};
-ghost use Rattle.run_steps.specs.Endings.{Refuses, Builds, Said, and_files, TookUpTo};
+ghost use Rattle.run_steps.specs.Endings.{Refuses, Builds, Said, and_files, TookUpTo, HasRoom};
 ghost use Rattle.run_steps.specs.Laws.{AnswersUnless};
 ghost use Rattle.guest_load.specs.Lines.{line, report};
 ghost use Rattle.guest_load.specs.LoadPlaces.{FitIn};
@@ -85,6 +85,11 @@ pub fn run<F: Files, O: Outs, S: Sink, E: Sink>(
         × Rose (S.faults out.old) (S.faults out.new)
         × (O.written outs.new ≡ and_files (O.written outs.old) outputs)
         × TookPrefix (S.taken out.old) (S.taken out.new) report)) }
+
+    // A write fails only where the output and the report that the words and the files call for find no room that is told.
+    ensures room { result ≡ Status.Write → (outputs : _) × (report : _)
+        × CallsFor (map string_bytes words.now) (F.held files.old) (Builds outputs report)
+        × (HasRoom (O.room outs.old) (S.room out.old) outputs report → ⊥) }
 
     // Where the files tell what they hold and no read failed, the answer is what they call for, or want of memory.
     ensures exact { IfSome (F.held files.old) (λ held. (outcome : _) → IsJob (map string_bytes words.now) held outcome → AnswersUnless (Rose (F.faults files.old) (F.faults files.new)) result outcome) }

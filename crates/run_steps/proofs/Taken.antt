@@ -1,12 +1,15 @@
 -- What outputs and streams took.
 use Rattle.std.proofs.Common.{◌≡◌, ◌∙◌, sym, ap, subst, refl, arith, ℕ, ◌+◌, ◌<◌, ◌≤◌, length, map, take, drop, get_or, List, [], ◌∷◌, ◌++◌, append-nil, append_assoc, Some, None}
-use Rattle.std.specs.Prelude.{Option, min}
+use Rattle.std.specs.Prelude.{Option, min, IsTrue, IfSome}
 use Rattle.std.specs.List.{flat_map}
 use Rattle.std.proofs.Math.Seq.{take-append-add}
 use Rattle.std.proofs.lemmas.Grind.{flat_map-append}
 use Rattle.std.proofs.lemmas.List.{take-append-drop, take-append-le, take_min, map-append, drop_more}
-use Rattle.dl_base.specs.Outside.{File, TookPart, TookPrefix, and_bytes}
-use Rattle.run_steps.specs.Endings.{and_files, TookUpTo}
+use Rattle.dl_base.specs.Outside.{File, TookPart, TookPrefix, and_bytes, fits_file, less_file}
+use Rattle.dl_base.proofs.RegionLemmas.{both_true}
+use Rattle.dl_base.specs.declared.status.Status.{Status}
+use Rattle.dl_base.specs.declared.status.Status.TheVariants as statuses
+use Rattle.run_steps.specs.Endings.{and_files, TookUpTo, TakesFiles, fits_files}
 use Rattle.run_steps.specs.Outputs.{file_of}
 use Rattle.run_steps.specs.declared.output.Output.{Output}
 
@@ -51,3 +54,24 @@ TookPrefix-parts {X} f parts i default below old new took =
     ap (flat_map f) (sym (take-append-drop i parts)) ∙ flat_map-append f (take i parts) (drop i parts)
     ∙ ap (λ (rest : List X). flat_map f (take i parts) ++ flat_map f rest) (drop_more parts i default below) in
     subst (TookPrefix old new) (sym split) (TookPrefix-between old new (flat_map f (take i parts)) (f (get_or parts i default)) (flat_map f (drop (i + 1) parts)) took)
+
+-- outputs that have room for those that are left take the first of them, and then have room for the others
+takes_first : (old new : Option (ℕ × ℕ)) (file : File) (rest : List File) (Done : Type 0)
+    → IfSome old (λ room. IsTrue (fits_file room file.0 file.1) → Done × (new ≡ Some (less_file room file.0 file.1)))
+    → TakesFiles old (file ∷ rest) → Done × TakesFiles new rest
+takes_first None new file rest Done took takes = elim takes [ ]
+takes_first (Some room) new file rest Done took takes =
+    let parts = both_true (fits_file room file.0 file.1) (fits_files (less_file room file.0 file.1) rest) takes in
+    let done = took parts.0 in
+    (done.0, subst (λ (left : Option (ℕ × ℕ)). TakesFiles left rest) (sym done.1) parts.1)
+
+pub takes_output : (old new : Option (ℕ × ℕ)) (outputs : List Output) (index : ℕ) (output : Output) (Done : Type 0) → index < length outputs → output ≡ get_or outputs index output
+    → IfSome old (λ room. IsTrue (fits_file room output.name output.bytes) → Done × (new ≡ Some (less_file room output.name output.bytes)))
+    → TakesFiles old (map file_of (drop index outputs)) → Done × TakesFiles new (map file_of (drop (index + 1) outputs))
+takes_output old new outputs index output Done below is took takes =
+    takes_first old new (file_of output) (map file_of (drop (index + 1) outputs)) Done took
+    (subst (λ (left : List Output). TakesFiles old (map file_of left)) (drop_more outputs index output below ∙ ap (λ (first : Output). first ∷ drop (index + 1) outputs) (sym is)) takes)
+
+-- what was built did not fail to be written
+pub built_or_not : (status : Status) → status ≡ statuses.Built → status ≡ statuses.Write → ⊥
+built_or_not status built failed = cc

@@ -1,6 +1,6 @@
 -- How a run may end, and what it leaves in the outputs and the streams.
-use Rattle.std.specs.Prelude.{◌≡◌, ℕ, ◌⊎◌, List, ◌∷◌, ◌++◌, Option, option_map}
-use Rattle.dl_base.specs.Outside.{File, Rose, and_bytes, TookPart, TookPrefix}
+use Rattle.std.specs.Prelude.{◌≡◌, ℕ, ◌≤◌, ◌⊎◌, Bool, true, ◌&&◌, IsTrue, List, [], ◌∷◌, ◌++◌, length, Option, Some, None, option_map}
+use Rattle.dl_base.specs.Outside.{File, Rose, and_bytes, TookPart, TookPrefix, fits_file, less_file}
 use Rattle.dl_base.specs.declared.status.Status.{Status}
 
 -- what a run is called to do: to refuse with a status and a message, or to build outputs and a report
@@ -23,3 +23,22 @@ TookUpTo old new outputs name =
 abbrev pub Said : {S : Type 0} → (S → Option (List ℕ)) → (S → ℕ) → S → S → List ℕ → Type 0
 Said taken faults old new line =
     (taken new ≡ and_bytes (taken old) line) ⊎ (Rose (faults old) (faults new) × TookPrefix (taken old) (taken new) line)
+
+-- there is room for these files, one after the other
+abbrev pub fits_files : ℕ × ℕ → List File → Bool
+fits_files room [] = true
+fits_files room (file ∷ rest) = fits_file room file.0 file.1 && fits_files (less_file room file.0 file.1) rest
+
+-- outputs that tell what room they have, and it is enough for these files
+abbrev pub TakesFiles : Option (ℕ × ℕ) → List File → Type 0
+TakesFiles (Some room) files = IsTrue (fits_files room files)
+TakesFiles None files = ⊥
+
+-- a stream that tells what room it has, and it is enough for these bytes
+abbrev pub TakesBytes : Option ℕ → List ℕ → Type 0
+TakesBytes (Some room) bytes = length bytes ≤ room
+TakesBytes None bytes = ⊥
+
+-- there is room for these outputs and this report
+abbrev pub HasRoom : Option (ℕ × ℕ) → Option ℕ → List File → List ℕ → Type 0
+HasRoom outputs_room stream_room outputs report = TakesFiles outputs_room outputs × TakesBytes stream_room report

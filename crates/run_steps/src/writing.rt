@@ -1,8 +1,8 @@
 // Writing what was made.
-ghost use Rattle.std.specs.Prelude.{◌≡◌, ◌≤◌, ◌<◌, ◌⊎◌, length, map, slice_index_or, [], IfSome, IfNone, codes};
+ghost use Rattle.std.specs.Prelude.{◌≡◌, ◌≤◌, ◌<◌, ◌⊎◌, length, map, slice_index_or, [], IfSome, IfNone, IsNone, codes};
 ghost use Rattle.dl_base.specs.Outside.{Rose, and_bytes, TookPrefix};
 ghost use Rattle.run_steps.specs.Messages.{line, file_message};
-ghost use Rattle.run_steps.specs.Endings.{Said, and_files, TookUpTo};
+ghost use Rattle.run_steps.specs.Endings.{Said, and_files, TookUpTo, TakesFiles, HasRoom};
 ghost use Rattle.run_steps.specs.Outputs.{file_of, files_of, report_of};
 
 use crate::lines::say_of_file;
@@ -32,6 +32,7 @@ pub fn write_all<O: Outs, S: Sink, E: Sink>(
         × (O.written outs.new ≡ and_files (O.written outs.old) (files_of build.now))
         × TookPrefix (S.taken out.old) (S.taken out.new) (report_of build.now))) }
     ensures only { (result ≡ Status.Built) ⊎ (result ≡ Status.Write) }
+    ensures room { HasRoom (O.room outs.old) (S.room out.old) (files_of build.now) (report_of build.now) → result ≡ Status.Built }
 {
     if let Some(output) = write_each(build.outputs.as_slice(), outs) {
         say_of_file(err, program, output.name.as_str(), "write failed");
@@ -51,6 +52,7 @@ fn write_each<'a, O: Outs>(outputs: &'a [Output], outs: &mut O) -> Option<&'a Ou
     ensures all { IfNone result (O.written outs.new ≡ and_files (O.written outs.old) (map file_of outputs.now)) }
     ensures part { IfSome result (λ output. TookUpTo (O.written outs.old) (O.written outs.new) (map file_of outputs.now) output.now.name) }
     ensures failed { IfSome result (λ _. Rose (O.faults outs.old) (O.faults outs.new)) }
+    ensures room { TakesFiles (O.room outs.old) (map file_of outputs.now) → IsNone result }
 {
     for output in outputs {
         if let Err(_failed) = outs.write(output.name.as_str(), output.bytes.as_slice()) {

@@ -3,7 +3,7 @@ use Rattle.std.specs.Prelude.{Option}
 use Rattle.dl_base.specs.declared.status.Status.TheVariants as statuses
 use Rattle.run_steps.specs.Endings.{Builds, and_files}
 use Rattle.run_steps.specs.Outputs.{files_of, report_of}
-use Rattle.run_steps.proofs.Taken.{and_files-none}
+use Rattle.run_steps.proofs.Taken.{and_files-none, built_or_not}
 use Rattle.dl_base.specs.Outside.{and_bytes}
 use Rattle.dom0less_words.specs.Meant.{meant}
 use Rattle.dom0less_words.specs.Words.{Asked, Check}
@@ -40,6 +40,15 @@ returns-in-Ok-prepare-clause-write g c = λ failed.
       words_call (map string_bytes c.args.words.now) (g.F.Files.held c.args.files.now) (meant c.in-Ok.asked) (Builds (files_of build) (report_of build)) (sym c.in-Ok.ensures.asked) c.in-Ok-prepare.ensures.built,
       written.1,
       written.2,
+    )
+
+pub returns-in-Ok-prepare-clause-room : goal.returns-in-Ok-prepare-clause-room
+returns-in-Ok-prepare-clause-room g c = λ failed.
+    let build = c.in-Ok-prepare.build in (
+      files_of build,
+      report_of build,
+      words_call (map string_bytes c.args.words.now) (g.F.Files.held c.args.files.now) (meant c.in-Ok.asked) (Builds (files_of build) (report_of build)) (sym c.in-Ok.ensures.asked) c.in-Ok-prepare.ensures.built,
+      λ room. built_or_not c.write_all.result (c.write_all.ensures.room room) failed,
     )
 
 pub returns-in-Ok-prepare-clause-exact : goal.returns-in-Ok-prepare-clause-exact

@@ -5,6 +5,7 @@ use Rattle.dl_base.specs.Outside.{and_bytes}
 use Rattle.guest_load.specs.Job.{IsAskedJob, IsWordsJob}
 use Rattle.guest_load.specs.Meant.{meant}
 use Rattle.run_steps.specs.Outputs.{files_of, report_of}
+use Rattle.run_steps.proofs.Taken.{built_or_not}
 use Rattle.guest_load.specs.Words.{Asked}
 use Rattle.guest_load.proofs.Exact.{words_call, exact_build, exact_stopped, cause_of, refused_for, format_for, longer_for, read_for, differs_for}
 use Rattle.guest_load.proofs.Avoided.{job_avoids}
@@ -30,6 +31,15 @@ returns-in-Ok-clause-write g c = λ failed.
       words_call (map string_bytes c.args.words.now) (g.F.Files.held c.args.files.now) (meant c.in-Some.asked) outcome c.in-Some.ensures c.in-Ok.ensures.built,
       written.1,
       written.2,
+    )
+
+pub returns-in-Ok-clause-room : goal.returns-in-Ok-clause-room
+returns-in-Ok-clause-room g c = λ failed.
+    let outcome = Builds (files_of c.in-Ok.build) (report_of c.in-Ok.build) in (
+      files_of c.in-Ok.build,
+      report_of c.in-Ok.build,
+      words_call (map string_bytes c.args.words.now) (g.F.Files.held c.args.files.now) (meant c.in-Some.asked) outcome c.in-Some.ensures c.in-Ok.ensures.built,
+      λ room. built_or_not c.write_all.result (c.write_all.ensures.room room) failed,
     )
 
 pub returns-in-Ok-clause-exact : goal.returns-in-Ok-clause-exact
