@@ -22,7 +22,7 @@ use Rattle.build_outputs.specs.Builds.{last_refused, unless_refused, with_last, 
 use Rattle.build_outputs.specs.Lengths.{tree_item, too_long, tree_too_long, refused_trees}
 use Rattle.build_outputs.specs.Names.{host_name}
 use Rattle.build_outputs.specs.Outputs.{host_output, tree_outputs, written_trees}
-use Rattle.build_outputs.specs.TooLong.{IsLengthStop, IsFirstLengthStop}
+use Rattle.build_outputs.specs.PrivateTooLong.{IsLengthStop, IsFirstLengthStop}
 use Rattle.dl_base.specs.Outside.{File}
 
 -- a test of lengths

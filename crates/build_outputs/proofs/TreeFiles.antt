@@ -12,8 +12,8 @@ use Rattle.run_steps.specs.declared.stop.Stop.{Stop}
 use Rattle.tree_plan.specs.Descriptions.{partial_at}
 use Rattle.build_outputs.specs.Lengths.{tree_item, too_long, tree_too_long, refused_trees}
 use Rattle.build_outputs.specs.Outputs.{tree_output, tree_outputs}
-use Rattle.build_outputs.specs.Spelled.{IsSpelled, AreSpelled}
-use Rattle.build_outputs.specs.TooLong.{IsLengthStop, IsFirstLengthStop}
+use Rattle.build_outputs.specs.PrivateSpelled.{IsSpelled, AreSpelled}
+use Rattle.build_outputs.specs.PrivateTooLong.{IsLengthStop, IsFirstLengthStop}
 use Rattle.build_outputs.proofs.Refused.{is_too_long, is_not_too_long}
 
 -- where the first trees are not too long, those after them decide

@@ -1,9 +1,9 @@
-pub mod Names
-pub mod Lengths
-pub mod Outputs
-pub mod Totals
 pub mod Builds
-pub mod Isolation
+pub mod Lengths
 pub mod Made
-pub mod Spelled
-pub mod TooLong
+pub mod Names
+pub mod Outputs
+pub mod PrivateSpelled
+pub mod PrivateTooLong
+pub mod Promises
+pub mod Totals

@@ -7,7 +7,7 @@ ghost use Rattle.run_steps.specs.Steps.{nothing};
 ghost use Rattle.run_steps.specs.Stops.{IsOwnDue};
 ghost use Rattle.tree_plan.specs.Descriptions.{description_of};
 ghost use Rattle.build_outputs.specs.Builds.{AfterItems};
-ghost use Rattle.build_outputs.specs.Isolation.{IsBuildOf};
+ghost use Rattle.build_outputs.specs.Promises.{IsBuildOf};
 ghost use Rattle.build_outputs.specs.Made.{files_in};
 
 use crate::lengths::write_tree;

@@ -6,7 +6,7 @@ ghost use Rattle.fdt_write.specs.Flattened.{flattened, length_limit};
 ghost use Rattle.run_steps.specs.Stops.{IsOwnDue};
 ghost use Rattle.build_outputs.specs.Builds.{IsItemRefusal};
 ghost use Rattle.build_outputs.specs.Lengths.{tree_item};
-ghost use Rattle.build_outputs.specs.TooLong.{IsLengthStop};
+ghost use Rattle.build_outputs.specs.PrivateTooLong.{IsLengthStop};
 
 use crate::refusals::refused;
 use dl_base::{Bytes, Item, Part, Why};

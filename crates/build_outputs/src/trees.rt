@@ -12,8 +12,8 @@ ghost use Rattle.tree_plan.specs.Descriptions.{partial_at, trees_in};
 ghost use Rattle.build_outputs.specs.Lengths.{refused_trees};
 ghost use Rattle.build_outputs.specs.Made.{files_in};
 ghost use Rattle.build_outputs.specs.Outputs.{in_folder, tree_output, tree_outputs};
-ghost use Rattle.build_outputs.specs.Spelled.{AreSpelled, IsSpelled};
-ghost use Rattle.build_outputs.specs.TooLong.{IsFirstLengthStop, IsLengthStop};
+ghost use Rattle.build_outputs.specs.PrivateSpelled.{AreSpelled, IsSpelled};
+ghost use Rattle.build_outputs.specs.PrivateTooLong.{IsFirstLengthStop, IsLengthStop};
 
 use crate::lengths::write_tree;
 use crate::names::make_tree_name;

@@ -6,7 +6,7 @@ use Rattle.dl_base.specs.Maps.{AreSortedFrom}
 use Rattle.dl_base.specs.declared.ranges.Kind.{Kind}
 use Rattle.dl_base.specs.declared.ranges.Kind.TheVariants.{Ram, Device, Shared}
 use Rattle.dl_base.specs.declared.ranges.MapRange.{MapRange}
-use Rattle.build_report.specs.Addresses.{HasAddresses}
+use Rattle.build_report.specs.PrivateAddresses.{HasAddresses}
 use Rattle.build_report.specs.Lines.{ram_in, ram_pages}
 
 -- its pages and frames have addresses

@@ -1,3 +1,3 @@
-pub mod Addresses
 pub mod Lines
+pub mod PrivateAddresses
 pub mod Report

@@ -2,7 +2,7 @@
 ghost use Rattle.std.specs.Prelude.{◌≡◌, ◌++◌, All, OnOk, flat_map};
 ghost use Rattle.dl_base.specs.Maps.{AreMapRanges};
 ghost use Rattle.build_report.specs.Lines.{port_line, ram_pages, run_line, spi_line};
-ghost use Rattle.build_report.specs.Addresses.{HasAddresses};
+ghost use Rattle.build_report.specs.PrivateAddresses.{HasAddresses};
 ghost use Rattle.build_report.specs.Report.{guest_lines};
 
 use crate::lines::{append_head, append_port, append_run, append_spi, pages_in};

@@ -1,7 +1,7 @@
 // The lines of a report, each added to those before. After want of memory part of a line may stand there.
 ghost use Rattle.std.specs.Prelude.{◌≡◌, ◌++◌, ◌<◌, ◌^◌, OnOk, codes, decimal};
 ghost use Rattle.build_report.specs.Lines.{kind_text, address_text, places_text, run_line, spi_line, peer_text, port_line, name_text, counts_text, head_line, free_line, counted, generated_line, ram_in, ram_pages};
-ghost use Rattle.build_report.specs.Addresses.{HasAddresses};
+ghost use Rattle.build_report.specs.PrivateAddresses.{HasAddresses};
 
 use dl_base::{Bytes, Kind, MapRange};
 use domain_plan::GuestPlan;

@@ -32,7 +32,7 @@ use Rattle.build_sources.specs.Handed.{HandsOn}
 use Rattle.build_sources.specs.Configs.{config_limit, IsConfigRefusal, IsPlaceRefusal, IsMakeRefusal, AfterConfig, AfterFileSizes, AfterScript, AfterHost, AfterMade, Made, IsMade, IsConfigFile, facts_of, host_file, other_files}
 use Rattle.build_sources.specs.Scripts.{script_name}
 use Rattle.build_sources.specs.Sources.{Stand, script_limit, IsLineRefusal, AfterScriptFile, AfterRun, loads_named, known_size, AfterKnownSize, AfterLoadSize, AfterLoadSizes, AfterConfigured, AfterReplay, AfterReady, AfterSource}
-use Rattle.build_sources.specs.Replays.{AfterMadeRun, AfterSized, AfterTreeRead, AfterScriptRead}
+use Rattle.build_sources.specs.PrivateReplays.{AfterMadeRun, AfterSized, AfterTreeRead, AfterScriptRead}
 use Rattle.build_sources.specs.Partials.{load_at, AfterLoaded, AfterPartial, AfterPartials, partial_addresses}
 use Rattle.build_sources.proofs.ConfigSteps.{AreFileSizes, config_step, file_sizes_step, made_step}
 use Rattle.build_sources.proofs.SourceSteps.{tree_step, script_file_step, load_size_step, load_sizes_step, partial_step}

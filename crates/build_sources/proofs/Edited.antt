@@ -16,7 +16,7 @@ use Rattle.run_steps.proofs.Step.{IsStep, and_then, hand_on, hand_on_step, on_re
 use Rattle.build_sources.specs.Handed.{HandsOn}
 use Rattle.build_sources.specs.Configs.{Made, IsMade, facts_of}
 use Rattle.build_sources.specs.Edited.{StandsOnEdited}
-use Rattle.build_sources.specs.Replays.{AfterMadeRun}
+use Rattle.build_sources.specs.PrivateReplays.{AfterMadeRun}
 use Rattle.build_sources.specs.Scripts.{script_name}
 use Rattle.build_sources.specs.Sources.{Stand, IsStepRefusal, AfterRun, config_stand}
 use Rattle.build_sources.proofs.ConfigSteps.{as_many_sizes}

@@ -26,7 +26,7 @@ use Rattle.run_steps.proofs.OneOutcome.{Decides, both_decide, hand_on_decides, r
 use Rattle.build_sources.specs.Configs.{config_limit, IsConfigRefusal, IsPlaceRefusal, IsMakeRefusal, AfterConfig, AfterScript, AfterHost, AfterMade, Made, facts_of, host_file, other_files}
 use Rattle.build_sources.specs.Scripts.{script_name}
 use Rattle.build_sources.specs.Sources.{Stand, script_limit, IsLineRefusal, IsStepRefusal, AfterScriptFile, AfterRun, loads_named, known_size, AfterKnownSize, AfterLoadSize, AfterLoadSizes, config_stand, replay_stand, ready_stand, AfterSource}
-use Rattle.build_sources.specs.Replays.{AfterMadeRun, AfterSized, AfterTreeRead, AfterScriptRead}
+use Rattle.build_sources.specs.PrivateReplays.{AfterMadeRun, AfterSized, AfterTreeRead, AfterScriptRead}
 use Rattle.build_sources.specs.Partials.{load_at, AfterLoaded, AfterPartial, AfterPartials, described_by, partial_addresses}
 
 -- a configuration, and what is made of it

@@ -18,7 +18,7 @@ use Rattle.build_sources.specs.Handed.{HandsOn}
 use Rattle.build_sources.specs.Configs.{Made, AfterMade, IsMade}
 use Rattle.build_sources.specs.Scripts.{script_name}
 use Rattle.build_sources.specs.Sources.{Stand, script_limit, IsLineRefusal, IsStepRefusal, AfterScriptFile, AfterRun, loads_named, known_size, AfterKnownSize, AfterLoadSize, AfterLoadSizes, config_stand, replay_stand, ready_stand, AfterConfigured, AfterReplay, AfterReady, AfterSource, StandsOn}
-use Rattle.build_sources.specs.Replays.{AfterMadeRun, AfterSized, AfterTreeRead, AfterScriptRead}
+use Rattle.build_sources.specs.PrivateReplays.{AfterMadeRun, AfterSized, AfterTreeRead, AfterScriptRead}
 use Rattle.build_sources.specs.Partials.{load_at, AfterLoaded, AfterPartial, AfterPartials, Describes, described_by, partial_addresses}
 use Rattle.build_sources.proofs.ConfigSteps.{made_step}
 use Rattle.build_sources.proofs.Handing.{handed_step, both_step}

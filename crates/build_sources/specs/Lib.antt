@@ -1,8 +1,8 @@
-pub mod Handed
 pub mod Configs
+pub mod Edited
+pub mod Handed
+pub mod Meant
+pub mod Partials
+pub mod PrivateReplays
 pub mod Scripts
 pub mod Sources
-pub mod Edited
-pub mod Replays
-pub mod Partials
-pub mod Meant

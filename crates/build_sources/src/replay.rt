@@ -7,7 +7,7 @@ ghost use Rattle.run_steps.specs.Stops.{IsDue, IsOwnDue, Grew};
 ghost use Rattle.run_steps.specs.Trees.{flat_tree};
 ghost use Rattle.build_sources.specs.Handed.{HandsOn};
 ghost use Rattle.build_sources.specs.Meant.{meant_stand};
-ghost use Rattle.build_sources.specs.Replays.{AfterScriptRead, AfterTreeRead, AfterSized};
+ghost use Rattle.build_sources.specs.PrivateReplays.{AfterScriptRead, AfterTreeRead, AfterSized};
 ghost use Rattle.build_sources.specs.Sources.{AfterReplay};
 
 use crate::loads::measure_loads;

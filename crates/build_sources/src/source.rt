@@ -8,7 +8,7 @@ ghost use Rattle.run_steps.specs.Stops.{IsDue, IsOwnDue, Grew};
 ghost use Rattle.build_sources.specs.Edited.{HasEditedTree, StandsOnEdited};
 ghost use Rattle.build_sources.specs.Handed.{HandsOn};
 ghost use Rattle.build_sources.specs.Meant.{meant_made, meant_stand};
-ghost use Rattle.build_sources.specs.Replays.{AfterMadeRun};
+ghost use Rattle.build_sources.specs.PrivateReplays.{AfterMadeRun};
 ghost use Rattle.build_sources.specs.Sources.{AfterConfigured, AfterReady, AfterSource, StandsOn, folder_of};
 
 use crate::configuration::{Made, make_script};

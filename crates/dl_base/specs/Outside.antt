@@ -43,10 +43,6 @@ ReadGives told (Err read_errors.Longer) = told ≡ Err read_errors.Longer
 ReadGives told (Err read_errors.Failed) = ⊤
 ReadGives told (Err read_errors.Memory) = ⊤
 
--- the list is that of the held files, where that is told
-abbrev pub IsHeld : Option (List File) → List File → Type 0
-IsHeld told held = IfSome told (λ files. held ≡ files)
-
 -- the size of a held file was given, or the call failed
 abbrev pub SizeGives : Option (List ℕ) → Result ℕ SizeError → Type 0
 SizeGives told (Ok size) = option_map (λ bytes. length bytes) told ≡ Some size

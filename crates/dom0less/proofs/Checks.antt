@@ -10,7 +10,8 @@ use Rattle.image_audit.specs.Audits.{AfterAudits, FindsNothing}
 use Rattle.image_audit.specs.Texts.{checked_line}
 use Rattle.image_audit.proofs.AuditSteps.{audits_step}
 use Rattle.run_steps.specs.Endings.{Outcome, Refuses, Builds}
-use Rattle.run_steps.specs.Outputs.{report_of, outcome_of}
+use Rattle.run_steps.specs.Outputs.{report_of}
+use Rattle.run_steps.specs.PrivateOutcomes.{outcome_of}
 use Rattle.run_steps.specs.Steps.{OnResult, nothing}
 use Rattle.run_steps.specs.Stops.{Counts, Grew, IsDue, IsOwnDue}
 use Rattle.run_steps.specs.declared.output.Build.{Build}

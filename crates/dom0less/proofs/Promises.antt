@@ -22,13 +22,14 @@ use Rattle.dom0less_words.specs.Settings.{settings}
 use Rattle.build_sources.specs.Configs.{Made, AfterMade, IsMade}
 use Rattle.build_sources.specs.Scripts.{script_file, unused_lines}
 use Rattle.build_sources.specs.Sources.{Stand, AfterSource, folder_of}
-use Rattle.build_sources.specs.Replays.{AfterMadeRun}
+use Rattle.build_sources.specs.PrivateReplays.{AfterMadeRun}
 use Rattle.build_sources.proofs.Avoided.{item_of_no_file, made_run_avoids, replay_avoids, ready_avoids, partials_avoid}
 use Rattle.build_sources.proofs.ConfigSteps.{made_step}
 use Rattle.build_sources.proofs.SourceSteps.{source_step, partials_step}
 use Rattle.build_outputs.specs.Builds.{IsItemRefusal, built_of}
 use Rattle.dom0less.specs.Builds.{IsPlanWriting, IsDescribedJob, IsStandJob, IsBuildJob}
-use Rattle.dom0less.specs.Headline.{NamesFirstRefused, IsRefusedBefore, IsListing, IsPromised}
+use Rattle.dom0less.specs.Headline.{NamesFirstRefused, IsRefusedBefore, IsListing}
+use Rattle.dom0less.specs.PrivatePromises.{IsPromised}
 use Rattle.dom0less.specs.Job.{IsTreeListing, IsScriptWriting, IsScriptJob, IsAskedJob, IsSettingsJob}
 
 module _ (told : Option (List File)) (outputs : List File) (report : List ℕ) where

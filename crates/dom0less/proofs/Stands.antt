@@ -3,7 +3,8 @@ use Rattle.std.proofs.Common.{◌≡◌, sym, ap, subst, ℕ, List, ◌++◌}
 use Rattle.std.specs.Prelude.{Option, Result, Ok, Err, IfOk, IfErr}
 use Rattle.dl_base.specs.Outside.{File}
 use Rattle.run_steps.specs.Endings.{Outcome, Builds}
-use Rattle.run_steps.specs.Outputs.{files_of, report_of, outcome_of}
+use Rattle.run_steps.specs.Outputs.{files_of, report_of}
+use Rattle.run_steps.specs.PrivateOutcomes.{outcome_of}
 use Rattle.run_steps.specs.Steps.{nothing}
 use Rattle.run_steps.specs.Stops.{Counts, Grew, IsDue, IsOwnDue}
 use Rattle.run_steps.specs.declared.output.Build.{Build}
@@ -17,7 +18,7 @@ use Rattle.build_sources.specs.Edited.{HasEditedTree}
 use Rattle.build_sources.specs.Partials.{AfterPartials, Describes}
 use Rattle.build_sources.proofs.SourceSteps.{source_step, partials_step}
 use Rattle.build_outputs.specs.Builds.{IsItemRefusal, AfterItems, built_of}
-use Rattle.build_outputs.specs.Isolation.{IsBuildOf}
+use Rattle.build_outputs.specs.Promises.{IsBuildOf}
 use Rattle.build_outputs.specs.declared.totals.Totals.{Totals}
 use Rattle.dom0less.specs.Builds.{IsPlanWriting, IsDescribedJob, IsStandJob, IsBuildJob}
 use Rattle.dom0less.specs.Headline.{IsStandBuild, IsDescribedBuild}

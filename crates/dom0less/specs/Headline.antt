@@ -1,5 +1,5 @@
 -- What status 0 promises of what was written, and what a refusal names.
-use Rattle.std.specs.Prelude.{◌≡◌, ◌++◌, ℕ, List, [], length, Option, Ok, Err}
+use Rattle.std.specs.Prelude.{◌≡◌, ◌++◌, ℕ, List, length, Option, Ok, Err}
 use Rattle.dl_base.specs.Outside.{File}
 use Rattle.domain_plan.specs.Refusals.{Refusal}
 use Rattle.fdt_listing.specs.Listing.{listing}
@@ -14,12 +14,12 @@ use Rattle.image_audit.specs.Audits.{AreAudited}
 use Rattle.image_audit.specs.Texts.{checked_line}
 use Rattle.tree_plan.specs.Descriptions.{Description}
 use Rattle.tree_plan.specs.TreePlans.{TreePlan, plan_of, is_common}
-use Rattle.dom0less_words.specs.Words.{Word, Source, Config, Asked, Build, Check}
+use Rattle.dom0less_words.specs.Words.{Word, Source, Config}
 use Rattle.build_sources.specs.Sources.{Stand, StandsOn, folder_of}
 use Rattle.build_sources.specs.Edited.{HasEditedTree}
 use Rattle.build_sources.specs.Partials.{Describes}
 use Rattle.build_outputs.specs.Builds.{built_of}
-use Rattle.build_outputs.specs.Isolation.{IsBuildOf}
+use Rattle.build_outputs.specs.Promises.{IsBuildOf}
 use Rattle.build_outputs.specs.declared.totals.Totals.{Totals}
 
 -- Nothing of what is described is refused. These outputs are the files of its guests behind those that come before, and this report the lines about them behind those that come before.
@@ -80,9 +80,3 @@ pub record IsDescribedAudit (told : Option (List File)) (source : Source) (folde
   pub description : Description
   pub described : Describes told (folder_of source) stand description
   pub audited : IsPlanAudited told folder description report
-
--- what status 0 promises beyond the job, by what is asked for: of a build, what its images and trees are; of an audit, what the images are
-abbrev pub IsPromised : Option (List File) → Asked → List File → List ℕ → Type 0
-IsPromised told (Build source folder) outputs report = IsDescribedBuild told source folder outputs report
-IsPromised told (Check source folder) outputs report = (outputs ≡ []) × IsDescribedAudit told source folder report
-IsPromised told asked outputs report = Unit {0}

@@ -1,7 +1,8 @@
-pub mod Lines
 pub mod Builds
 pub mod Checks
 pub mod Generated
-pub mod Job
 pub mod Headline
+pub mod Job
 pub mod Laws
+pub mod Lines
+pub mod PrivatePromises

@@ -2,7 +2,8 @@
 ghost use Rattle.std.specs.Prelude.{◌≡◌, IfErr, IfOk, []};
 ghost use Rattle.std.specs.Option.{option_copied};
 ghost use Rattle.dom0less_words.specs.Meant.{meant_source};
-ghost use Rattle.run_steps.specs.Outputs.{files_of, outcome_of, report_of};
+ghost use Rattle.run_steps.specs.Outputs.{files_of, report_of};
+ghost use Rattle.run_steps.specs.PrivateOutcomes.{outcome_of};
 ghost use Rattle.run_steps.specs.Stops.{IsDue};
 ghost use Rattle.tree_plan.specs.Descriptions.{description_of};
 ghost use Rattle.run_steps.specs.Endings.{Builds};

@@ -1,7 +1,7 @@
 // The build of a generated tree.
 ghost use Rattle.std.specs.Prelude.{◌≡◌, ◌≤◌, IfErr, IfOk, []};
 ghost use Rattle.run_steps.specs.Endings.{Builds};
-ghost use Rattle.run_steps.specs.Outputs.{outcome_of};
+ghost use Rattle.run_steps.specs.PrivateOutcomes.{outcome_of};
 ghost use Rattle.run_steps.specs.Stops.{IsOwnDue};
 ghost use Rattle.dom0less.specs.Generated.{IsGeneratedJob, totals_line};
 

@@ -1,6 +1,7 @@
 // The listing of a tree.
 ghost use Rattle.std.specs.Prelude.{◌≡◌, IfErr, IfOk};
-ghost use Rattle.run_steps.specs.Outputs.{files_of, outcome_of, report_of};
+ghost use Rattle.run_steps.specs.Outputs.{files_of, report_of};
+ghost use Rattle.run_steps.specs.PrivateOutcomes.{outcome_of};
 ghost use Rattle.run_steps.specs.Stops.{IsDue};
 ghost use Rattle.run_steps.specs.Trees.{AfterTreeFile, flat_tree};
 ghost use Rattle.dom0less.specs.Job.{IsTreeListing};

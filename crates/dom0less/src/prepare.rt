@@ -1,9 +1,10 @@
 // What a run makes before its first write.
 ghost use Rattle.std.specs.Prelude.{◌≡◌, ◌≤◌, IfErr, IfOk};
 ghost use Rattle.dom0less_words.specs.Meant.{meant};
-ghost use Rattle.run_steps.specs.Outputs.{files_of, outcome_of, report_of};
+ghost use Rattle.run_steps.specs.Outputs.{files_of, report_of};
+ghost use Rattle.run_steps.specs.PrivateOutcomes.{outcome_of};
 ghost use Rattle.run_steps.specs.Stops.{IsDue};
-ghost use Rattle.dom0less.specs.Headline.{IsPromised};
+ghost use Rattle.dom0less.specs.PrivatePromises.{IsPromised};
 ghost use Rattle.dom0less.specs.Job.{IsAskedJob};
 
 use crate::build::prepare_build;

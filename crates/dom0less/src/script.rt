@@ -2,7 +2,7 @@
 ghost use Rattle.std.specs.Prelude.{◌≡◌, IfErr, IfOk};
 ghost use Rattle.std.specs.Option.{option_copied};
 ghost use Rattle.dom0less_words.specs.Meant.{meant_script};
-ghost use Rattle.run_steps.specs.Outputs.{outcome_of};
+ghost use Rattle.run_steps.specs.PrivateOutcomes.{outcome_of};
 ghost use Rattle.run_steps.specs.Stops.{IsDue};
 ghost use Rattle.build_sources.specs.Meant.{meant_made};
 ghost use Rattle.dom0less.specs.Job.{IsScriptJob, IsScriptWriting};

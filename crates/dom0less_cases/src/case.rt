@@ -14,7 +14,8 @@ const REPORT: usize = 100_000;
 const SAID: usize = 4000;
 
 /// The words of a run, the program's name first, and what it meets outside. What of its outputs is shown beside their
-/// lengths, and the file, if there is one, whose first lines alone are held, one more in each run.
+/// lengths, and the file, if there is one, whose first lines alone are held, one more in each run; or the place of whose
+/// first calls one fails in each run, with how many these are.
 #[derive(Drop)]
 pub(crate) struct Case {
     pub(crate) words: Vec<String>,
@@ -24,6 +25,7 @@ pub(crate) struct Case {
     pub(crate) err: MemSink,
     pub(crate) shown: Vec<String>,
     pub(crate) cut: Option<String>,
+    pub(crate) failing: Option<(String, u32)>,
 }
 
 impl Case {
@@ -37,6 +39,7 @@ impl Case {
             err: MemSink::new(alloc),
             shown: Vec::new(alloc),
             cut: None,
+            failing: None,
         };
         case.clear(alloc)?;
         case.add_word(alloc, "dom0less")?;

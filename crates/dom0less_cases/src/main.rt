@@ -6,10 +6,12 @@
 mod case;
 mod content;
 mod cuts;
+mod failing;
 mod reading;
 mod shown;
 
 use crate::cuts::show_cuts;
+use crate::failing::show_failing;
 use crate::reading::read_case;
 use crate::shown::show;
 use std::{fs, io};
@@ -17,14 +19,14 @@ use std::{fs, io};
 /// Runs the case of this name and shows what came of it.
 fn show_case(rt: &(impl Print + std::rt::Files + AllocGlobal), name: &str) -> io::Result<()> {
     let mut case = read_case(rt, name)?;
-    let cut = case.cut.take();
-    match cut {
-        Some(file) => show_cuts(rt, name, file.as_str(), &mut case),
-        None => {
-            let status = case.run(rt.alloc());
-            show(rt, name, status, &case)
-        }
+    if let Some((place, calls)) = case.failing.take() {
+        return show_failing(rt, name, place.as_str(), calls);
     }
+    if let Some(file) = case.cut.take() {
+        return show_cuts(rt, name, file.as_str(), &mut case);
+    }
+    let status = case.run(rt.alloc());
+    show(rt, name, status, &case)
 }
 
 fn main(rt: HostRuntime) -> io::Result<()> {

@@ -6,6 +6,7 @@
 //     line TEXT         a line of text
 //     zeros COUNT       so many bytes that are zero
 //     fail PLACE CALL   the call of this number fails: of `files`, `outs`, `out` or `err`
+//     each PLACE COUNT  the run is made so many times, and the next call of this place fails each time
 //     cut NAME          the run is made for the first lines of this file, with one more each time
 //
 // and the words by which `content` shows more of an output than its length.
@@ -92,6 +93,12 @@ fn add_call(
             Some((place, call)) => case.fail_at(place, number(call) as u64),
             None => Ok(()),
         },
+        "each" => {
+            if let Some((place, count)) = value.split_once(' ') {
+                case.failing = Some((String::from_str(alloc, place)?, number(count)));
+            }
+            Ok(())
+        }
         "cut" => {
             case.cut = Some(String::from_str(alloc, value)?);
             Ok(())

@@ -1,6 +1,6 @@
-pub mod Words
 pub mod Command
-pub mod Usage
-pub mod Settings
 pub mod Meant
-pub mod KeptOptions
+pub mod PrivateKeptOptions
+pub mod Settings
+pub mod Usage
+pub mod Words

@@ -4,7 +4,7 @@ ghost use Rattle.std.specs.Option.{option_copied};
 ghost use Rattle.clap.specs.Words.{app_of, new_app, with_rule, rule_of, first_of, found_of, rows_of, kind_of};
 ghost use Rattle.clap.specs.declared.error.kind.ErrorKind.TheVariants.{OutOfMemory};
 ghost use Rattle.dom0less_words.specs.Command.{command, letters, names, is_taken, lettered, named, flag, options, options_in, is_set};
-ghost use Rattle.dom0less_words.specs.KeptOptions.{meant_options};
+ghost use Rattle.dom0less_words.specs.PrivateKeptOptions.{meant_options};
 
 use crate::options::Options;
 use clap::{Arg, ArgAction, ArgMatches, Command, Error};

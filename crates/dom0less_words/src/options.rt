@@ -3,7 +3,7 @@ ghost use Rattle.std.specs.Prelude.{◌≡◌, option_map};
 ghost use Rattle.std.specs.Option.{option_copied};
 ghost use Rattle.dom0less_words.specs.Usage.{asked_of, load_kind_of, generated_of, has_no_script_options, stands_alone, built_or_checked, of_config, of_mode, OfReplay, OfReady, OfShow, OfGenerate};
 ghost use Rattle.dom0less_words.specs.Meant.{meant, meant_source};
-ghost use Rattle.dom0less_words.specs.KeptOptions.{meant_options};
+ghost use Rattle.dom0less_words.specs.PrivateKeptOptions.{meant_options};
 
 use crate::asked::{Asked, ScriptAsked, Source};
 use dl_base::read_number;

@@ -6,7 +6,7 @@ use Rattle.std.proofs.lemmas.Bool.{eqb-true}
 use Rattle.std.proofs.lemmas.List.{reverse-append, length-reverse}
 use Rattle.fdt_tree.specs.Tree.{Bytes}
 use Rattle.fdt_listing.specs.Listing.{path_below}
-use Rattle.fdt_listing.specs.Opened.{paths, path_inside, shown}
+use Rattle.fdt_listing.specs.PrivateOpened.{paths, path_inside, shown}
 
 -- A path of no bytes is shown as `/`.
 pub shown-root : (opened others : List Bytes) (held path : Bytes) (lengths : List ℕ) → opened ≡ paths held lengths → opened ≡ path ∷ others → (length held == 0) ≡ true → codes "/" ≡ shown path

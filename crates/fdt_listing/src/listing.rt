@@ -2,7 +2,7 @@
 ghost use Rattle.std.specs.Prelude.{◌≡◌, ◌++◌, flat_map, IfOk, OnOk};
 ghost use Rattle.fdt_write.specs.Meaning.{meaning};
 ghost use Rattle.fdt_listing.specs.Listing.{reserve_line, tree_lines, listing};
-ghost use Rattle.fdt_listing.specs.Opened.{opened_after, token_line};
+ghost use Rattle.fdt_listing.specs.PrivateOpened.{opened_after, token_line};
 
 use crate::lines::{append_line, append_property, append_reserve};
 use crate::opened::OpenNodes;

@@ -2,7 +2,7 @@
 ghost use Rattle.std.specs.Prelude.{◌≡◌, ◌∷◌, List, [], drop, OnOk};
 ghost use Rattle.fdt_tree.specs.Tree.{Bytes};
 ghost use Rattle.fdt_listing.specs.Listing.{path_below};
-ghost use Rattle.fdt_listing.specs.Opened.{path_inside, shown};
+ghost use Rattle.fdt_listing.specs.PrivateOpened.{path_inside, shown};
 
 use std::alloc::{AllocError, Global};
 use std::marker::Model;
@@ -19,7 +19,7 @@ pub(crate) struct OpenNodes {
 
 impl Model for OpenNodes {
     ghost use Rattle.std.specs.Prelude.{ℕ, List, reverse};
-    ghost use Rattle.fdt_listing.specs.Opened.{paths};
+    ghost use Rattle.fdt_listing.specs.PrivateOpened.{paths};
 
     ghost Value = { List (List ℕ) };
 

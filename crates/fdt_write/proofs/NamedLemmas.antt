@@ -12,8 +12,8 @@ use Rattle.fdt_read.specs.Spelling.{spelled_properties, spelled, spelled_whole}
 use Rattle.fdt_write.specs.Strings.{names_of, names_in, is_among, offset_in, strings, strings_of}
 use Rattle.fdt_write.specs.Blocks.{token_bytes}
 use Rattle.fdt_write.specs.Flattened.{length_limit}
-use Rattle.fdt_write.specs.Names.{saturated, offset_of}
-use Rattle.fdt_write.specs.Used.{is_named}
+use Rattle.fdt_write.specs.PrivateNames.{saturated, offset_of}
+use Rattle.fdt_write.specs.PrivateUsed.{is_named}
 use Rattle.fdt_write.proofs.Firsts.{among-all}
 use Rattle.fdt_write.proofs.Spelled.{Has, Has-left, Has-right}
 use Rattle.fdt_write.proofs.Texts.{offset_in-lt}

@@ -9,7 +9,7 @@ use Rattle.std.proofs.lemmas.Map.Text.{is_eq-slice_cmp}
 use Rattle.std.proofs.lemmas.Slice.Eq.{bytes_eq-Decides}
 use Rattle.fdt_tree.specs.Tree.{Bytes}
 use Rattle.fdt_write.specs.Strings.{is_among, firsts, offset_in, ended, strings_of}
-use Rattle.fdt_write.specs.Names.{saturated, texts, with_name, offset_of, name_cmp, IsIndex}
+use Rattle.fdt_write.specs.PrivateNames.{saturated, texts, with_name, offset_of, name_cmp, IsIndex}
 
 same_Bool : (a b : Bool) → (a ≡ true → b ≡ true) → (b ≡ true → a ≡ true) → a ≡ b
 same_Bool true true f g = refl

@@ -7,7 +7,7 @@ use Rattle.fdt_read.specs.Tokens.{Token, begin_node, property, padded}
 use Rattle.fdt_read.specs.Spelling.{spelled_whole}
 use Rattle.fdt_write.specs.Strings.{strings, offset_in, ended}
 use Rattle.fdt_write.specs.Blocks.{word_bytes, with_padding, token_bytes, structure_bytes}
-use Rattle.fdt_write.specs.Names.{saturated}
+use Rattle.fdt_write.specs.PrivateNames.{saturated}
 use Rattle.fdt_write.specs.Meaning.{meaning}
 use Rattle.fdt_write.specs.declared.tree_tokens.TreeToken.{TreeToken}
 use Rattle.fdt_write.proofs.TokensRead.{length-with_padding}

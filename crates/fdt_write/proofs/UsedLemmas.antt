@@ -5,7 +5,7 @@ use Rattle.fdt_tree.specs.Tree.{Bytes, Property, Trees, none, tree, Tree}
 use Rattle.fdt_read.specs.Tokens.{Token, begin_node, end_node, property, nop, end, broken}
 use Rattle.fdt_read.specs.Spelling.{spelled_properties, spelled, spelled_whole}
 use Rattle.fdt_write.specs.Strings.{names_of, names_in, firsts, strings}
-use Rattle.fdt_write.specs.Used.{with_used}
+use Rattle.fdt_write.specs.PrivateUsed.{with_used}
 use Rattle.fdt_write.specs.Meaning.{meaning}
 use Rattle.fdt_write.specs.declared.tree_tokens.TreeToken.{TreeToken}
 use Rattle.fdt_write.proofs.NamesLemmas.{firsts-push}

@@ -5,7 +5,7 @@ use Rattle.fdt_tree.specs.declared.reserve.Reserve.{Reserve}
 use Rattle.fdt_write.specs.Strings.{strings, strings_of}
 use Rattle.fdt_write.specs.Blocks.{structure_bytes, reservation_bytes}
 use Rattle.fdt_write.specs.Flattened.{header_words, header_bytes, flattened, length_limit}
-use Rattle.fdt_write.specs.Names.{saturated}
+use Rattle.fdt_write.specs.PrivateNames.{saturated}
 use Rattle.fdt_write.proofs.Appending.{two-parts}
 use Rattle.fdt_write.proofs.ReservesRead.{length-reservations}
 use Rattle.fdt_write.proofs.Words.{length-row}

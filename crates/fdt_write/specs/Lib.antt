@@ -1,9 +1,9 @@
-pub mod Strings
 pub mod Blocks
 pub mod Flattened
 pub mod Laws
 pub mod Left
 pub mod Meaning
-pub mod Names
-pub mod Held
-pub mod Used
+pub mod PrivateHeld
+pub mod PrivateNames
+pub mod PrivateUsed
+pub mod Strings

@@ -4,10 +4,10 @@ ghost use Rattle.std.specs.Prelude.{◌≡◌, ◌++◌, ◌∷◌, [], ◌+◌,
 ghost use Rattle.fdt_read.specs.Tokens.{padded};
 ghost use Rattle.fdt_write.specs.Blocks.{word_bytes, wide_bytes, with_padding, reserve_bytes, reservation_bytes, token_bytes, structure_bytes};
 ghost use Rattle.fdt_write.specs.Flattened.{header_bytes, length_limit};
-ghost use Rattle.fdt_write.specs.Held.{held};
+ghost use Rattle.fdt_write.specs.PrivateHeld.{held};
 ghost use Rattle.fdt_write.specs.Meaning.{meaning};
 ghost use Rattle.fdt_write.specs.Strings.{ended, strings, strings_of};
-ghost use Rattle.fdt_write.specs.Used.{is_named};
+ghost use Rattle.fdt_write.specs.PrivateUsed.{is_named};
 
 use crate::names::Names;
 use crate::tree_tokens::{TreeToken, TreeTokens};

@@ -4,7 +4,7 @@ ghost use Rattle.std.specs.List.{list_all};
 ghost use Rattle.fdt_read.specs.Reservations.{is_last_pair};
 ghost use Rattle.fdt_write.specs.Blocks.{reservation_bytes, structure_bytes};
 ghost use Rattle.fdt_write.specs.Flattened.{flattened, length_limit};
-ghost use Rattle.fdt_write.specs.Held.{held};
+ghost use Rattle.fdt_write.specs.PrivateHeld.{held};
 ghost use Rattle.fdt_write.specs.Strings.{strings, strings_of};
 
 use crate::blocks::{push_header, push_reserves, push_structure};

@@ -1,8 +1,8 @@
 // The names of the strings block.
 ghost use Rattle.std.specs.Prelude.{◌≡◌, ◌++◌, [], length, flat_map, IfOk, OnOk, OnErr};
-ghost use Rattle.fdt_write.specs.Names.{texts, offset_of, saturated, with_name, IsIndex};
+ghost use Rattle.fdt_write.specs.PrivateNames.{texts, offset_of, saturated, with_name, IsIndex};
 ghost use Rattle.fdt_write.specs.Strings.{ended, strings, strings_of};
-ghost use Rattle.fdt_write.specs.Used.{with_used};
+ghost use Rattle.fdt_write.specs.PrivateUsed.{with_used};
 
 use crate::tree_tokens::{TreeToken, TreeTokens};
 use fdt_tree::Tree;
@@ -21,7 +21,7 @@ pub(crate) struct Names<'a> {
 }
 
 impl<'a> Names<'a> {
-    ghost use Rattle.fdt_write.specs.Held.{held};
+    ghost use Rattle.fdt_write.specs.PrivateHeld.{held};
     ghost use Rattle.fdt_write.specs.Meaning.{meaning};
 
     /// No names.

@@ -4,7 +4,7 @@ ghost use Rattle.fdt_read.specs.Tokens.{padded};
 ghost use Rattle.fdt_tree.specs.Tree.{Bytes};
 ghost use Rattle.fdt_write.specs.Blocks.{token_bytes, structure_bytes};
 ghost use Rattle.fdt_write.specs.Meaning.{meaning};
-ghost use Rattle.fdt_write.specs.Names.{saturated};
+ghost use Rattle.fdt_write.specs.PrivateNames.{saturated};
 
 use crate::tree_tokens::{TreeToken, TreeTokens};
 use fdt_tree::Tree;

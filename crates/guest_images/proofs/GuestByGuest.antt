@@ -8,7 +8,7 @@ use Rattle.guest_images.specs.Faults.{IsFaultOf}
 use Rattle.guest_images.specs.declared.fault.ImagesFault.{ImagesFault}
 use Rattle.guest_images.specs.declared.fault.ImagesFault.TheVariants.{Refused, Memory}
 use Rattle.guest_images.specs.Requests.{tables_item, no_table_frame, left_by, left_by_all, refused_tables}
-use Rattle.guest_images.specs.ImageFiles.{IsImageFile, AreImageFiles}
+use Rattle.guest_images.specs.PrivateImageFiles.{IsImageFile, AreImageFiles}
 use Rattle.domain_plan.specs.Refusals.{or_later}
 
 -- one more guest draws from what those before it left

@@ -9,7 +9,7 @@ use Rattle.stage2_tables.specs.Least.{least_image}
 use Rattle.domain_plan.specs.declared.planned.GuestPlan.{GuestPlan}
 use Rattle.guest_images.specs.Requests.{tables_needed, left_by}
 use Rattle.guest_images.specs.Images.{least_file, frames_for, least_files}
-use Rattle.guest_images.specs.ImageFiles.{IsImageFile, AreImageFiles}
+use Rattle.guest_images.specs.PrivateImageFiles.{IsImageFile, AreImageFiles}
 
 least_alone : (plan : GuestPlan) (free file : List ℕ) → IsImageFile plan.ranges free file → file ≡ least_file plan.ranges (frames_for plan free)
 least_alone plan free file is =

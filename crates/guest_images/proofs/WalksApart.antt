@@ -17,7 +17,7 @@ use Rattle.stage2_tables.specs.Draws.{drawn_after, table_frames, drawn_from, lef
 use Rattle.stage2_tables.proofs.DrawLemmas.{drawn_free, drawn_taken, free_after-was_free}
 use Rattle.domain_plan.specs.declared.planned.GuestPlan.{GuestPlan}
 use Rattle.guest_images.specs.Requests.{tables_needed, left_by}
-use Rattle.guest_images.specs.ImageFiles.{IsImageFile, AreImageFiles}
+use Rattle.guest_images.specs.PrivateImageFiles.{IsImageFile, AreImageFiles}
 use Rattle.guest_images.specs.Walks.{walked, WalksAsDescribed, AllWalk, walk_of, frame_of, attributes_of, MeetOnlyIn, tables_in, tables_of, AreApart, target_in, ArePlannedApart}
 
 -- each image walks as its guest's map says

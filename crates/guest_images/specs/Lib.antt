@@ -1,6 +1,6 @@
-pub mod Images
-pub mod Requests
-pub mod Faults
 pub mod Built
+pub mod Faults
+pub mod Images
+pub mod PrivateImageFiles
+pub mod Requests
 pub mod Walks
-pub mod ImageFiles

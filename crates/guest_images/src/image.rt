@@ -1,7 +1,7 @@
 //! The image of one guest.
 ghost use Rattle.std.specs.Prelude.{◌≡◌, ◌⊎◌, IfErr, IfOk, None, OnOk, Some};
 ghost use Rattle.dl_base.specs.Maps.{AreMapRanges, AreMerged};
-ghost use Rattle.guest_images.specs.ImageFiles.{IsImageFile};
+ghost use Rattle.guest_images.specs.PrivateImageFiles.{IsImageFile};
 ghost use Rattle.guest_images.specs.Requests.{left_by, no_table_frame, tables_item, tables_needed};
 
 use crate::fault::ImagesFault;

@@ -1,10 +1,10 @@
-pub mod Heads
-pub mod LoadPlaces
 pub mod Banks
-pub mod Started
-pub mod Lines
-pub mod Words
-pub mod Parts
+pub mod Heads
 pub mod Job
 pub mod Laws
-pub mod Meant
+pub mod Lines
+pub mod LoadPlaces
+pub mod Parts
+pub mod PrivateMeant
+pub mod Started
+pub mod Words

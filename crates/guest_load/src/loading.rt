@@ -3,14 +3,14 @@ ghost use Rattle.std.specs.Prelude.{◌≡◌, ◌<◌, ◌≤◌, ◌^◌, ℕ,
 ghost use Rattle.std.specs.List.{list_all};
 ghost use Rattle.fdt_read.specs.Reservations.{is_last_pair};
 ghost use Rattle.fdt_write.specs.Flattened.{flattened, length_limit};
-ghost use Rattle.run_steps.specs.Outputs.{outcome_of};
+ghost use Rattle.run_steps.specs.PrivateOutcomes.{outcome_of};
 ghost use Rattle.run_steps.specs.Steps.{IsWriting};
 ghost use Rattle.run_steps.specs.Stops.{IsOwnDue};
 ghost use Rattle.guest_load.specs.Job.{IsLengthRefusal, IsLoading};
 ghost use Rattle.guest_load.specs.Lines.{report};
 ghost use Rattle.guest_load.specs.LoadPlaces.{end_of, first_past, load_places};
 ghost use Rattle.guest_load.specs.Started.{started};
-ghost use Rattle.guest_load.specs.Meant.{meant_parts};
+ghost use Rattle.guest_load.specs.PrivateMeant.{meant_parts};
 
 use crate::head::ImageHead;
 use crate::lines::{make_no_room_message, make_report, make_too_long_message};

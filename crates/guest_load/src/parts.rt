@@ -8,7 +8,7 @@ ghost use Rattle.guest_load.specs.Banks.{first_bank};
 ghost use Rattle.guest_load.specs.Heads.{image_head};
 ghost use Rattle.guest_load.specs.LoadPlaces.{end_of};
 ghost use Rattle.guest_load.specs.Parts.{AfterBank, AfterGuest, AfterHead, AfterKernel, AfterRamdisk, AfterParts, IsRamdisk, AreParts, kernel_limit};
-ghost use Rattle.guest_load.specs.Meant.{meant, meant_parts};
+ghost use Rattle.guest_load.specs.PrivateMeant.{meant, meant_parts};
 
 use crate::bank::first_bank;
 use crate::head::{ImageHead, read_head};

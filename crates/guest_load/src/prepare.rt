@@ -1,9 +1,9 @@
 // What a run makes before its first write.
 ghost use Rattle.std.specs.Prelude.{◌≡◌, IfOk, IfErr};
-ghost use Rattle.run_steps.specs.Outputs.{outcome_of};
+ghost use Rattle.run_steps.specs.PrivateOutcomes.{outcome_of};
 ghost use Rattle.run_steps.specs.Stops.{IsDue};
 ghost use Rattle.guest_load.specs.Job.{IsAskedJob};
-ghost use Rattle.guest_load.specs.Meant.{meant};
+ghost use Rattle.guest_load.specs.PrivateMeant.{meant};
 
 use crate::loading::load_parts;
 use crate::parts::read_parts;

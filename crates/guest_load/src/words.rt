@@ -1,7 +1,7 @@
 // The words of the command line.
 ghost use Rattle.std.specs.Prelude.{◌≡◌, map, string_bytes, option_map};
 ghost use Rattle.guest_load.specs.Words.{asked};
-ghost use Rattle.guest_load.specs.Meant.{meant};
+ghost use Rattle.guest_load.specs.PrivateMeant.{meant};
 
 /// The files that the words name.
 #[derive(Clone, Copy)]

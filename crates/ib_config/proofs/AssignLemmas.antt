@@ -12,7 +12,7 @@ use Rattle.ib_config.specs.Runs.{run_of, after_run}
 use Rattle.ib_config.specs.Settings.{◌>>=◌}
 use Rattle.ib_config.specs.Line.{Assignment, lines_of, line_fault, assignment_of, assignments_of, first_line_fault, says_nothing}
 use Rattle.ib_config.specs.Variables.{Assigned, assigned_in, last_text, assigned_keys, same_key}
-use Rattle.ib_config.specs.Scan.{held, assign, assign_some, nothing_assigned, rest_read, file_read, line_read, unless, not_feed, line_at, after_line}
+use Rattle.ib_config.specs.PrivateScan.{held, assign, assign_some, nothing_assigned, rest_read, file_read, line_read, unless, not_feed, line_at, after_line}
 use Rattle.ib_config.specs.declared.assignments.Key.{Key}
 use Rattle.ib_config.specs.declared.fault.ConfigFault.{ConfigFault}
 

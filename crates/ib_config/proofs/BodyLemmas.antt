@@ -5,7 +5,7 @@ use Rattle.std.specs.Str.{is_utf8}
 use Rattle.dl_base.specs.Rows.{first_that_applies}
 use Rattle.ib_config.specs.Settings.{◌>>=◌}
 use Rattle.ib_config.specs.Line.{Assignment, body_faults, body_of, says_nothing, line_fault, assignment_of, has_bracket, has_index, has_name, after_name, name_of, value_part, value_of_part, is_open, is_plain_part, is_unsupported, index_of, assigned_by}
-use Rattle.ib_config.specs.Scan.{unless, line_read, body_read, body_steps, index_read, part_read}
+use Rattle.ib_config.specs.PrivateScan.{unless, line_read, body_read, body_steps, index_read, part_read}
 use Rattle.ib_config.specs.declared.fault.ConfigFault.{ConfigFault}
 use Rattle.ib_config.specs.declared.fault.ConfigFault.TheVariants.{NotUtf8, BadName, BadIndex, OpenQuote, NotPlain, Unsupported}
 

@@ -5,7 +5,7 @@ use Rattle.std.specs.Option.{option_map_or}
 use Rattle.ib_config.specs.Line.{lines_of, first_line_fault, assignments_of}
 use Rattle.ib_config.specs.Variables.{Assigned, assigned_in}
 use Rattle.ib_config.specs.Settings.{◌>>=◌, settings_of, config_of}
-use Rattle.ib_config.specs.Scan.{unless, file_read}
+use Rattle.ib_config.specs.PrivateScan.{unless, file_read}
 use Rattle.ib_config.specs.declared.fault.ConfigFault.{ConfigFault}
 
 two_steps : (fault : Option ConfigFault) (assigned : Assigned) → option_map_or Err fault (settings_of assigned) ≡ (unless fault assigned >>= settings_of)

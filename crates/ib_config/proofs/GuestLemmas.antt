@@ -9,7 +9,7 @@ use Rattle.dl_base.proofs.NumberLists.{numbers-zero, numbers-cons, length-map-nu
 use Rattle.std.proofs.lemmas.Option.{slice_get-get_or}
 use Rattle.ib_config.specs.Rules.{is_linked}
 use Rattle.ib_config.specs.Settings.{◌>>=◌, each, IsFault}
-use Rattle.ib_config.specs.Scan.{linked_in}
+use Rattle.ib_config.specs.PrivateScan.{linked_in}
 use Rattle.ib_config.specs.declared.fault.ConfigFault.{ConfigFault}
 use Rattle.ib_config.specs.declared.fault.ConfigFault.TheVariants as faults
 use Rattle.ib_config.specs.declared.groups.PortGroup.{PortGroup}

@@ -8,7 +8,7 @@ use Rattle.std.proofs.lemmas.Bool.Decides.{nat_tests}
 use Rattle.ib_config.specs.Runs.{after_run, first_is, is_empty}
 use Rattle.ib_config.specs.Line.{is_letter, is_digit}
 use Rattle.ib_config.specs.Rules.{◌>>=◌, words_of, number, number_between, range_of, pairs, region_of, shm_groups, port_of, port_groups, is_shm_id, is_id_byte, shm_id}
-use Rattle.ib_config.specs.Words.{is_space, not_space, from_word, word_at, after_word, onto}
+use Rattle.ib_config.specs.PrivateWords.{is_space, not_space, from_word, word_at, after_word, onto}
 use Rattle.ib_config.proofs.RunLemmas.{length-after_run}
 use Rattle.ib_config.proofs.TextLemmas.{class_is_text}
 use Rattle.dl_base.specs.declared.ranges.BaseSize.{BaseSize}

@@ -1,8 +1,8 @@
-pub mod Runs
-pub mod Words
-pub mod Line
-pub mod Rules
-pub mod Variables
-pub mod Settings
-pub mod Scan
 pub mod FaultTexts
+pub mod Line
+pub mod PrivateScan
+pub mod PrivateWords
+pub mod Rules
+pub mod Runs
+pub mod Settings
+pub mod Variables

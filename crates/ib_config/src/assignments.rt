@@ -4,7 +4,7 @@ ghost use Rattle.std.specs.Option.{option_copied};
 ghost use Rattle.std.specs.Str.Lines.{strip_carriage_return};
 ghost use Rattle.ib_config.specs.Variables.{text_at};
 ghost use Rattle.ib_config.specs.Settings.{Gives};
-ghost use Rattle.ib_config.specs.Scan.{held, nothing_assigned, assign, assign_some, rest_read, not_feed, file_read, view, line_at, after_line};
+ghost use Rattle.ib_config.specs.PrivateScan.{held, nothing_assigned, assign, assign_some, rest_read, not_feed, file_read, view, line_at, after_line};
 
 use crate::classes::{Class, split_run};
 use crate::fault::ConfigFault;

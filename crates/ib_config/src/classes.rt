@@ -3,7 +3,7 @@ ghost use Rattle.std.specs.Prelude.{IsTrue, ◌≡◌, ◌<◌, ◌≤◌, lengt
 ghost use Rattle.std.specs.List.{prefix_len};
 ghost use Rattle.ib_config.specs.Runs.{run_of, after_run};
 ghost use Rattle.ib_config.specs.Line.{is_letter, is_digit, is_blank, is_plain, is_bare};
-ghost use Rattle.ib_config.specs.Scan.{passes};
+ghost use Rattle.ib_config.specs.PrivateScan.{passes};
 
 /// A class of bytes that a part of a line consists of.
 #[derive(Clone, Copy, Debug, PartialEq, Eq)]

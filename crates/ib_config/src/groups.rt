@@ -2,7 +2,7 @@
 ghost use Rattle.std.specs.Prelude.{◌≡◌, ◌≤◌, ◌<◌, ◌+◌, ◌-◌, ◌^◌, IfOk, IfSome, length, drop, true, false, Some};
 ghost use Rattle.std.specs.List.{list_all};
 ghost use Rattle.ib_config.specs.Rules.{words_of, range_of, pairs, region_of, shm_groups, port_of, port_groups, is_shm_id, is_id_byte, number_between as number_within};
-ghost use Rattle.ib_config.specs.Words.{word_at, after_word, from_word};
+ghost use Rattle.ib_config.specs.PrivateWords.{word_at, after_word, from_word};
 
 use crate::assignments::copy_text;
 use crate::classes::{Class, is_digit_byte, is_letter_byte, split_run};

@@ -7,7 +7,7 @@ ghost use Rattle.ib_config.specs.Rules.{ports_of, is_linked as is_linked_to};
 ghost use Rattle.ib_config.specs.Variables as table;
 ghost use Rattle.ib_config.specs.Variables.{value_of};
 ghost use Rattle.ib_config.specs.Settings.{Gives, guest_settings, ports_at, is_static as has_static, direct_value, each};
-ghost use Rattle.ib_config.specs.Scan.{held, linked_in};
+ghost use Rattle.ib_config.specs.PrivateScan.{held, linked_in};
 
 use crate::assignments::Assignments;
 use crate::fault::ConfigFault;

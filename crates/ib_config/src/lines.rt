@@ -8,7 +8,7 @@ ghost use Rattle.std.specs.Prelude.{true, false};
 ghost use Rattle.ib_config.specs.Runs.{run_of, after_run, first_is, is_empty};
 ghost use Rattle.ib_config.specs.Line.{says_nothing, has_name, has_index, is_unsupported, is_blank, is_letter, is_name_start, is_plain, is_bare, is_tail, is_quoted, is_name_byte, is_digit, unsupported_names};
 ghost use Rattle.ib_config.specs.Settings.{Gives};
-ghost use Rattle.ib_config.specs.Scan.{passes, line_read, part_read, body_steps, index_read, view};
+ghost use Rattle.ib_config.specs.PrivateScan.{passes, line_read, part_read, body_steps, index_read, view};
 
 use crate::classes::{Class, is_bare_byte, is_letter_byte, is_plain_byte, split_run};
 use crate::fault::ConfigFault;
@@ -104,7 +104,7 @@ fn text_of_value(value: &[u8], quoted: bool) -> &str
 }
 
 /// The value of the part behind the `=`.
-#[tactic(auto, unfolding(crate::specs::Scan::part_read))]
+#[tactic(auto, unfolding(crate::specs::PrivateScan::part_read))]
 fn value_in_part(number: u64, part: &[u8]) -> Result<&str, ConfigFault>
     ensures { Gives (λ v. v.now) result (part_read number part.now) }
 {
@@ -185,7 +185,7 @@ fn index_value(digits: &[u8]) -> u32
 }
 
 /// The index, if there is one, and the part behind the `=`.
-#[tactic(auto, using(crate::proofs::TextLemmas::run_passes), unfolding(crate::specs::Scan::index_read, crate::specs::Line::has_index))]
+#[tactic(auto, using(crate::proofs::TextLemmas::run_passes), unfolding(crate::specs::PrivateScan::index_read, crate::specs::Line::has_index))]
 fn index_in(number: u64, after: &[u8]) -> Result<(Option<u32>, &[u8]), ConfigFault>
     ensures { Gives (λ x. (x.0, x.1.now)) result (index_read number after.now) }
 {
@@ -218,7 +218,7 @@ fn is_refused_name(name: &[u8]) -> bool
 }
 
 /// What a line that says something assigns, without its leading blanks.
-#[tactic(auto, using(crate::proofs::TextLemmas::run_passes), unfolding(crate::specs::Scan::body_steps, crate::specs::Line::has_name))]
+#[tactic(auto, using(crate::proofs::TextLemmas::run_passes), unfolding(crate::specs::PrivateScan::body_steps, crate::specs::Line::has_name))]
 fn body_in(number: u64, body: &[u8]) -> Result<Found<'_>, ConfigFault>
     ensures { Gives view result (body_steps number body.now) }
 {

@@ -1,7 +1,7 @@
 // The variables of a configuration.
 ghost use Rattle.std.specs.Prelude.{◌≡◌, ◌≤◌, IfOk, length};
 ghost use Rattle.ib_config.specs.Settings.{Gives, settings_of};
-ghost use Rattle.ib_config.specs.Scan.{held};
+ghost use Rattle.ib_config.specs.PrivateScan.{held};
 
 use crate::assignments::Assignments;
 use crate::fault::ConfigFault;

@@ -1,7 +1,7 @@
 // The assigned names that have no effect.
 ghost use Rattle.std.specs.Prelude.{◌≡◌, ◌++◌, IfOk, OnOk, map, filter, not, decimal, codes, Some, None};
 ghost use Rattle.ib_config.specs.Settings.{is_one_of, common_names, guest_names, is_tested as tested, is_tested_at as tested_at, shown_key, unused_names};
-ghost use Rattle.ib_config.specs.Scan.{held};
+ghost use Rattle.ib_config.specs.PrivateScan.{held};
 
 use crate::assignments::{Assignments, Key, copy_text};
 use crate::guests::is_static;

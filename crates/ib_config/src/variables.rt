@@ -2,7 +2,7 @@
 ghost use Rattle.std.specs.Prelude.{◌≡◌, ◌≤◌, ◌<◌, IfOk, IfSome, List as Values, ℕ, Some, None, Err, Ok, unwrap_or, true, false};
 ghost use Rattle.std.specs.Option.{option_copied, option_map_or};
 ghost use Rattle.ib_config.specs.Settings.{Gives};
-ghost use Rattle.ib_config.specs.Scan.{held};
+ghost use Rattle.ib_config.specs.PrivateScan.{held};
 ghost use Rattle.ib_config.specs.Rules as rules_of;
 ghost use Rattle.ib_config.specs.Variables as table;
 ghost use Rattle.ib_config.specs.Variables.{value_of, text_at, file_text_at};

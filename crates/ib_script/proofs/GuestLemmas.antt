@@ -11,7 +11,8 @@ use Rattle.ib_config.specs.declared.groups.ShmGroup.{ShmGroup}
 use Rattle.ib_config.specs.declared.guests.Guest.{Guest}
 use Rattle.ib_placement.specs.Placement.{guest_files}
 use Rattle.ib_placement.specs.declared.places.FilePlace.{FilePlace}
-use Rattle.ib_script.specs.Guests.{guest_path, node_commands, machine_commands, static_commands, enhanced_commands, kernel_commands, other_modules, file_count, shared_commands, port_commands, domain_commands, module_commands, link_commands, guest_commands, guests_commands}
+use Rattle.ib_script.specs.Guests.{guest_path, node_commands, machine_commands, static_commands, enhanced_commands, kernel_commands, other_modules, shared_commands, port_commands, domain_commands, module_commands, link_commands, guest_commands, guests_commands}
+use Rattle.ib_script.specs.PrivateCounts.{file_count}
 use Rattle.ib_script.specs.Phandles.{first_phandle}
 use Rattle.ib_script.specs.Properties.{place_at}
 use Rattle.ib_script.specs.declared.command.Command.{Command}

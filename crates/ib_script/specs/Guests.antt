@@ -1,5 +1,5 @@
 -- The nodes of guests (Xen, docs/misc/arm/device-tree/booting.txt, "Creating Multiple Domains directly from Xen").
-use Rattle.std.specs.Prelude.{ℕ, ◌+◌, ◌*◌, Bool, not, is_some, List, [], ◌∷◌, ◌++◌, length, drop, Option, codes}
+use Rattle.std.specs.Prelude.{ℕ, ◌+◌, ◌*◌, Bool, not, is_some, List, ◌∷◌, ◌++◌, length, drop, Option, codes}
 use Rattle.std.specs.List.{flat_map, enumerate_from}
 use Rattle.dl_base.specs.declared.ranges.BaseSize.{BaseSize}
 use Rattle.ib_config.specs.Runs.{is_empty}
@@ -53,10 +53,6 @@ enhanced_commands path groups = on (not (is_empty groups)) (Set path (codes "xen
 unfoldable pub kernel_commands : List ℕ → Option (List ℕ) → FilePlace → List Command
 kernel_commands path cmd place =
     module_at path (codes "kernel") (codes "kernel") place ++ on_some cmd (λ cmd. Set (below path (codes "kernel")) (codes "bootargs") (word cmd) ∷ [])
-
--- how many files a guest has: its kernel, and its ramdisk and partial tree as far as they are set
-abbrev pub file_count : Bool → Bool → ℕ
-file_count ramdisk partial = 1 + one_if ramdisk + one_if partial
 
 -- the ramdisk and the partial tree of a guest that has them; their places follow the kernel's
 unfoldable pub other_modules : List ℕ → Bool → Bool → List FilePlace → List Command

@@ -1,5 +1,5 @@
 -- The script of a configuration, as ImageBuilder's uboot-script-gen writes it for a dom0less boot.
-use Rattle.std.specs.Prelude.{◌≡◌, ℕ, ◌+◌, ◌-◌, Bool, not, is_some, List, [], ◌∷◌, ◌++◌, map, length, drop, Option, Result, Ok, Err, codes, if◌then◌else◌}
+use Rattle.std.specs.Prelude.{◌≡◌, ℕ, ◌+◌, ◌-◌, Bool, not, is_some, List, ◌∷◌, ◌++◌, map, length, drop, Option, Result, Ok, Err, codes, if◌then◌else◌}
 use Rattle.ib_config.specs.declared.settings.Settings.{Settings}
 use Rattle.ib_placement.specs.Placement.{dom0_files}
 use Rattle.ib_placement.specs.declared.places.FilePlace.{FilePlace}
@@ -32,10 +32,6 @@ tree_commands tree chosen = (Addr tree ∷ Resize 0x80000 ∷ []) ++ on (not cho
 -- `/chosen` has the command line of Xen, and cells for the addresses and sizes below it
 unfoldable pub chosen_commands : List ℕ → List Command
 chosen_commands cmd = two_and_two (codes "/chosen") ++ Set (codes "/chosen") (codes "xen,xen-bootargs") (word cmd) ∷ []
-
--- how many files dom0 has
-abbrev pub dom0_count : Bool → Bool → ℕ
-dom0_count kernel ramdisk = one_if kernel + one_if ramdisk
 
 -- dom0's kernel, command line and ramdisk, as far as they are set; its files have the first of the places
 unfoldable pub dom0_commands : Bool → Option (List ℕ) → Bool → List FilePlace → List Command

@@ -1,9 +1,11 @@
 // Commands of the modules of dom0 and of guests.
 ghost use Rattle.std.specs.Prelude.{◌≡◌, ◌≤◌, ◌<◌, ◌++◌, true, OnOk, codes, length, drop};
 ghost use Rattle.std.specs.Option.{option_copied};
-ghost use Rattle.ib_script.specs.Guests.{file_count, kernel_commands, other_modules};
+ghost use Rattle.ib_script.specs.Guests.{kernel_commands, other_modules};
+ghost use Rattle.ib_script.specs.PrivateCounts.{file_count};
 ghost use Rattle.ib_script.specs.Properties.{on, module_at, place_at as the_place, one_if as one_where};
-ghost use Rattle.ib_script.specs.Script.{dom0_count, dom0_commands};
+ghost use Rattle.ib_script.specs.Script.{dom0_commands};
+ghost use Rattle.ib_script.specs.PrivateCounts.{dom0_count};
 
 use crate::command::Command;
 use crate::properties::{put_module, put_optional_word};

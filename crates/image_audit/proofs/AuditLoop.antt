@@ -22,7 +22,7 @@ use Rattle.run_steps.specs.Steps.{OnResult, IsReadRefusal, nothing}
 use Rattle.image_audit.specs.Findings.{tear, difference, table_where, audit_finding, is_mapped}
 use Rattle.image_audit.specs.Texts.{frame_text, table_mapped, table_shared}
 use Rattle.image_audit.specs.Audits.{image_limit, image_file, has_table, IsImageRefusal, UnlessFound, AfterImage, AfterAudit, AfterLater, AfterAudits, IsSound, IsAudited, AreAudited}
-use Rattle.image_audit.specs.Rests.{is_outside, IsRest, IsLeft}
+use Rattle.image_audit.specs.PrivateRests.{is_outside, IsRest, IsLeft}
 use Rattle.image_audit.proofs.ImageFiles.{frame_low}
 use Rattle.image_audit.proofs.AuditSteps.{audit_step}
 

@@ -16,7 +16,7 @@ use Rattle.stage2_walk.specs.Reads.{IsGap, HasRuns}
 use Rattle.stage2_walk.specs.declared.run.Run.{Run}
 use Rattle.stage2_walk.proofs.RunSteps.{HasRuns-within}
 use Rattle.image_audit.specs.Findings.{planned_map, are_one, differ_at, first_difference}
-use Rattle.image_audit.specs.Partings.{planned_run, begin_alike, are_same, parting_page, parting}
+use Rattle.image_audit.specs.PrivatePartings.{planned_run, begin_alike, are_same, parting_page, parting}
 use Rattle.image_audit.proofs.Parted.{its_runs, planned_runs}
 
 -- two maps agree from a page on up to another

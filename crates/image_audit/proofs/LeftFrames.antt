@@ -16,7 +16,7 @@ use Rattle.frame_ranges.specs.Ranges.{holds, lie_in}
 use Rattle.frame_ranges.proofs.CommonFrames.{is_in-frames_in, holds_one, within_tells}
 use Rattle.domain_plan.specs.declared.planned.GuestPlan.{GuestPlan}
 use Rattle.image_audit.specs.Findings.{is_mapped}
-use Rattle.image_audit.specs.Rests.{host_frames, one_frame, IsRest, IsLeft}
+use Rattle.image_audit.specs.PrivateRests.{host_frames, one_frame, IsRest, IsLeft}
 
 and-false : (b : Bool) → (b && false) ≡ false
 and-false true = refl

@@ -13,7 +13,7 @@ use Rattle.stage2_walk.specs.declared.run.Run.{Run}
 use Rattle.stage2_walk.proofs.RunSteps.{HasRuns-gap, HasRuns-leaf}
 use Rattle.stage2_walk.proofs.RunsWhole.{runs_of-HasRuns}
 use Rattle.image_audit.specs.Findings.{planned_map}
-use Rattle.image_audit.specs.Partings.{planned_run}
+use Rattle.image_audit.specs.PrivatePartings.{planned_run}
 
 -- ---- every map has its runs
 

@@ -11,7 +11,7 @@ use Rattle.stage2_walk.specs.Walks.{walk, reached}
 use Rattle.stage2_walk.specs.declared.run.Run.{Run}
 use Rattle.image_audit.specs.Findings.{planned_map, difference, table_where}
 use Rattle.image_audit.specs.Texts.{difference_text, frame_text, table_mapped, table_shared}
-use Rattle.image_audit.specs.Partings.{parting}
+use Rattle.image_audit.specs.PrivatePartings.{parting}
 use Rattle.image_audit.proofs.FirstDifference.{first_parting, parting_low}
 
 -- the ends of a range

@@ -1,5 +1,5 @@
-pub mod Findings
-pub mod Texts
 pub mod Audits
-pub mod Rests
-pub mod Partings
+pub mod Findings
+pub mod PrivatePartings
+pub mod PrivateRests
+pub mod Texts

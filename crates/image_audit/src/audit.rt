@@ -10,7 +10,7 @@ ghost use Rattle.run_steps.specs.Steps.{nothing};
 ghost use Rattle.run_steps.specs.Stops.{Grew, IsDue, IsOwnDue};
 ghost use Rattle.image_audit.specs.Audits.{AfterAudit, AfterAudits, AfterImage, IsAudited, FindsNothing, IsSound, UnlessFound};
 ghost use Rattle.image_audit.specs.Findings.{audit_finding};
-ghost use Rattle.image_audit.specs.Rests.{is_outside, IsLeft};
+ghost use Rattle.image_audit.specs.PrivateRests.{is_outside, IsLeft};
 
 use crate::finding::find_finding;
 use crate::frames::{all_frames, find_unmapped, leave_tables};

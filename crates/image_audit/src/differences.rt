@@ -3,7 +3,7 @@ ghost use Rattle.std.specs.Prelude.{◌≡◌, ◌+◌, ◌^◌, ◌<◌, ◌≤
 ghost use Rattle.dl_base.specs.Maps.{AreMapRanges, attributes};
 ghost use Rattle.stage2_walk.specs.Runs.{map_of};
 ghost use Rattle.image_audit.specs.Findings.{planned_map};
-ghost use Rattle.image_audit.specs.Partings.{are_same, begin_alike, parting, parting_page, planned_run};
+ghost use Rattle.image_audit.specs.PrivatePartings.{are_same, begin_alike, parting, parting_page, planned_run};
 
 use dl_base::{Kind, MapRange};
 use stage2_walk::{Image, Run, Step};

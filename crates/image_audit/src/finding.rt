@@ -7,7 +7,7 @@ ghost use Rattle.stage2_walk.specs.Pages.{page_of};
 ghost use Rattle.stage2_walk.specs.Runs.{mapped_runs};
 ghost use Rattle.image_audit.specs.Findings.{difference, audit_finding, table_where};
 ghost use Rattle.image_audit.specs.Texts.{table_mapped, table_shared};
-ghost use Rattle.image_audit.specs.Rests.{is_outside};
+ghost use Rattle.image_audit.specs.PrivateRests.{is_outside};
 
 use crate::differences::{find_parting, planned_goal, walked_goal};
 use crate::frames::find_outside;

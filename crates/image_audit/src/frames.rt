@@ -5,7 +5,7 @@ ghost use Rattle.dl_base.specs.Maps.{AreMapRanges};
 ghost use Rattle.frame_alloc.specs.Frames.{AreFrameRanges};
 ghost use Rattle.stage2_walk.specs.Pages.{frames_of};
 ghost use Rattle.image_audit.specs.Findings.{is_mapped};
-ghost use Rattle.image_audit.specs.Rests.{IsLeft, IsRest, host_frames, is_outside};
+ghost use Rattle.image_audit.specs.PrivateRests.{IsLeft, IsRest, host_frames, is_outside};
 
 use dl_base::{FrameRange, List, MapRange};
 use domain_plan::GuestPlan;

@@ -7,7 +7,7 @@ use Rattle.dl_base.specs.declared.status.Status.TheVariants as statuses
 use Rattle.run_steps.specs.declared.stop.Stop.{Stop}
 use Rattle.run_steps.specs.declared.stop.Stop.TheVariants.{Memory, Because}
 use Rattle.run_steps.specs.Endings.{Outcome}
-use Rattle.run_steps.specs.Outputs.{outcome_of}
+use Rattle.run_steps.specs.PrivateOutcomes.{outcome_of}
 use Rattle.run_steps.specs.declared.output.Build.{Build}
 use Rattle.run_steps.specs.Stops.{Counts, Grew, IsCause, IsDue, IsOwnCause, IsOwnDue}
 

@@ -1,8 +1,9 @@
+pub mod Endings
+pub mod Laws
 pub mod Messages
 pub mod Names
-pub mod Endings
-pub mod Steps
-pub mod Trees
-pub mod Stops
 pub mod Outputs
-pub mod Laws
+pub mod PrivateOutcomes
+pub mod Steps
+pub mod Stops
+pub mod Trees

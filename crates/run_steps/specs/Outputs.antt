@@ -1,9 +1,8 @@
 -- What a run makes before its first write.
-use Rattle.std.specs.Prelude.{ℕ, List, [], map, unwrap_or}
+use Rattle.std.specs.Prelude.{ℕ, List, map, unwrap_or}
 use Rattle.dl_base.specs.Outside.{File}
 use Rattle.run_steps.specs.declared.output.Output.{Output}
 use Rattle.run_steps.specs.declared.output.Build.{Build}
-use Rattle.run_steps.specs.Endings.{Outcome, Builds}
 
 -- the file that an output is to be
 abbrev pub file_of : Output → File
@@ -16,7 +15,3 @@ files_of build = map file_of build.outputs
 -- the report, which is empty where there is none
 abbrev pub report_of : Build → List ℕ
 report_of build = unwrap_or build.report []
-
--- the outcome that is made: to write these files and to put this report
-abbrev pub outcome_of : Build → Outcome
-outcome_of build = Builds (files_of build) (report_of build)

@@ -15,7 +15,7 @@ use Rattle.script_run.specs.declared.machine.Stop.{Stop}
 use Rattle.script_run.specs.declared.machine.Stop.TheVariants.{Refused}
 use Rattle.script_run.specs.declared.machine.Stop.TheVariants as stops
 use Rattle.script_run.specs.Effect.{◌>>=◌, in_step, step, steps, tree_after, tree_effect, tree_load_of, tree_size, loads_from, loads_before, first_address, taken_address, is_load, load_count, loads_of, IsAfter, HasEffect, IsStopped}
-use Rattle.script_run.specs.Moves.{left_behind, first_or_0, fault_of, IsMoved, IsAt}
+use Rattle.script_run.specs.PrivateMoves.{left_behind, first_or_0, fault_of, IsMoved, IsAt}
 
 pub size_end : (rest : List Command) (size : ℕ) → length rest ≡ 0 → size < 2 ^ 64 → tree_size rest size ≡ size
 size_end [] size none fits = omega arith

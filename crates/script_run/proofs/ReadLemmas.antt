@@ -7,7 +7,7 @@ use Rattle.std.specs.Str.Lines.{strip_carriage_return}
 use Rattle.dl_base.specs.Rows.{first_that_applies}
 use Rattle.ib_config.specs.Runs.{run_of, after_run}
 use Rattle.ib_config.specs.Line.{lines_of, body_of, says_nothing}
-use Rattle.ib_config.specs.Scan.{not_feed, line_at, after_line}
+use Rattle.ib_config.specs.PrivateScan.{not_feed, line_at, after_line}
 use Rattle.ib_script.specs.declared.command.Command.{Command}
 use Rattle.script_run.specs.declared.script.LineWhy.TheVariants.{NotPlain, OpenQuote, BadCommand, BadNumber, BadPath}
 use Rattle.script_run.specs.declared.script.ScriptFault.{ScriptFault}
@@ -15,7 +15,7 @@ use Rattle.script_run.specs.Words.{Word, all_plain, words_of_line}
 use Rattle.script_run.specs.Commands.{Form, form_of, command_of, has_paths, words_read}
 use Rattle.script_run.specs.declared.script.ScriptFault.TheVariants.{Line, Memory}
 use Rattle.script_run.specs.Reading.{IsFault, ◌>>=◌, in_line, line_read, lines_read, commands_of}
-use Rattle.script_run.specs.Scan.{checked, form_read, words_steps, rest_read}
+use Rattle.script_run.specs.PrivateScan.{checked, form_read, words_steps, rest_read}
 
 -- the two tests of words, and then their form
 in_steps : (p c : Bool) (form : Option Form) → option_map_or Err (first_that_applies ((not p, NotPlain) ∷ (not c, OpenQuote) ∷ (is_none form, BadCommand) ∷ (is_none (option_and_then command_of form), BadNumber) ∷ (not (option_map_or has_paths form true), BadPath) ∷ []))

@@ -6,7 +6,7 @@ ghost use Rattle.std.specs.Int.{w32, to_be_bytes};
 ghost use Rattle.script_run.specs.Effect.{piece_bytes as bytes_of_piece, value_bytes as bytes_of_value, taken_address, is_load, is_taken, first_address as address_of_first, last_index, loads_at, is_addr, tree_load_of, tree_size as size_of_tree, edited_tree, why_of, has_good_name, CanRun, HasEffect, IsStopped};
 ghost use Rattle.fdt_tree.specs.Tree.{is_node_name, is_property_name};
 ghost use Rattle.ib_script.specs.declared.command.Command.TheVariants.{Mknod, Set};
-ghost use Rattle.script_run.specs.Moves.{IsMoved, left_behind, first_or_0, stop_of, fault_of};
+ghost use Rattle.script_run.specs.PrivateMoves.{IsMoved, left_behind, first_or_0, stop_of, fault_of};
 
 use dl_base::{Bytes, List, Loaded, Text};
 use fdt_tree::{EditFault, Tree};

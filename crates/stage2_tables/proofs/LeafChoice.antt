@@ -11,7 +11,8 @@ use Rattle.dl_base.specs.Regions.{Map, Region, span, region_around, is_run}
 use Rattle.dl_base.specs.declared.ranges.MapRange.{MapRange}
 use Rattle.dl_base.proofs.RegionLemmas.{both_true, IsRun, is_run_tells, is_run_from}
 use Rattle.dl_base.proofs.RunLemmas.{holds_tells, run_in_range, LiesIn, IsRunOf}
-use Rattle.stage2_tables.specs.Leaves.{fits, leaf_level, IsFresh}
+use Rattle.stage2_tables.specs.Leaves.{fits, leaf_level}
+use Rattle.stage2_tables.specs.PrivateLeaves.{IsFresh}
 use Rattle.stage2_tables.specs.Sweeps.{IsIn}
 use Rattle.stage2_tables.proofs.NumberCounts.{any-numbers-some}
 use Rattle.stage2_tables.proofs.SweepFacts.{inside, same_level, span_some, around_plain, around_in}

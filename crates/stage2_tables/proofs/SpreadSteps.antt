@@ -10,7 +10,8 @@ use Rattle.dl_base.specs.declared.ranges.MapRange.{MapRange}
 use Rattle.dl_base.proofs.RunLemmas.{holds_tells}
 use Rattle.stage2_walk.specs.Pages.{Page, frames_of}
 use Rattle.stage2_walk.specs.TableImages.{TableImage}
-use Rattle.stage2_tables.specs.Leaves.{fits, leaf_level, IsFresh}
+use Rattle.stage2_tables.specs.Leaves.{fits, leaf_level}
+use Rattle.stage2_tables.specs.PrivateLeaves.{IsFresh}
 use Rattle.stage2_tables.specs.Least.{leaf_word, leaf_word_at, region_word}
 use Rattle.stage2_tables.specs.Sweeps.{IsCounted, IsWrittenTo, HasFrames, IsSweptTo}
 use Rattle.stage2_tables.specs.Steps.{leaf_sweep, linked_pages, leaf_pages, HasRoom}

@@ -8,10 +8,12 @@ use Rattle.dl_base.specs.declared.ranges.MapRange.{MapRange}
 use Rattle.stage2_walk.specs.Pages.{Page, frames_of}
 use Rattle.stage2_walk.specs.TableImages.{TableImage}
 use Rattle.stage2_tables.specs.Words.{table_word}
-use Rattle.stage2_tables.specs.Leaves.{fits, leaf_level, stretch, IsFresh}
+use Rattle.stage2_tables.specs.Leaves.{fits, leaf_level, stretch}
+use Rattle.stage2_tables.specs.PrivateLeaves.{IsFresh}
 use Rattle.stage2_tables.specs.Least.{leaf_word}
 use Rattle.stage2_tables.specs.Sweeps.{IsCounted, IsSweptTo}
-use Rattle.stage2_tables.specs.Steps.{large_sweep, small_sweep, leaf_sweep, word_at, small_pages, linked_pages, leaf_pages, IsInLinked}
+use Rattle.stage2_tables.specs.Steps.{large_sweep, small_sweep, leaf_sweep, word_at, small_pages, linked_pages, leaf_pages}
+use Rattle.stage2_tables.specs.PrivateSteps.{IsInLinked}
 use Rattle.stage2_tables.specs.declared.sweep.Sweep.{Sweep}
 use Rattle.stage2_tables.proofs.LeafChoice.{IsRange}
 use Rattle.stage2_tables.proofs.SpreadSteps.{IsStep, next_leaf, counted_more, swept_more, length_frames}

@@ -1,6 +1,6 @@
 -- For private contracts and proofs: which word maps the next pages of a range: a block of 1 GiB or 2 MiB where one begins, and else a page.
-use Rattle.std.specs.Prelude.{◌≡◌, ℕ, ◌-◌, ◌%◌, ◌≤◌, ◌==◌, ◌&&◌, nat_le, if◌then◌else◌, min, Bool, true}
-use Rattle.dl_base.specs.Regions.{Map, span, region_around, is_run}
+use Rattle.std.specs.Prelude.{ℕ, ◌-◌, ◌%◌, ◌==◌, ◌&&◌, nat_le, if◌then◌else◌, min, Bool}
+use Rattle.dl_base.specs.Regions.{span}
 
 -- a region of this level begins at a page and at its frame, and lies in the pages that are left
 abbrev pub fits : ℕ → ℕ → ℕ → ℕ → Bool
@@ -13,7 +13,3 @@ leaf_level page frame left = if fits 1 page frame left then 1 else if fits 2 pag
 -- how many of the pages left are mapped from a page on, until a block may begin: those of a block, or the pages whose words stand in one table
 abbrev pub stretch : ℕ → ℕ → ℕ → ℕ
 stretch level page left = if level == 3 then min (512 - page % 512) left else span level
-
--- no larger run holds a page, but one that begins there
-abbrev pub IsFresh : Map → ℕ → Type 0
-IsFresh mapping page = (level : ℕ) → 1 ≤ level → level ≤ 2 → is_run mapping (region_around level page) ≡ true → (region_around level page).page ≡ page

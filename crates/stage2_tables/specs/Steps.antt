@@ -68,9 +68,3 @@ pub record HasRoom (count : ℕ) (sweep : Sweep) (page level : ℕ) : Type 0 whe
   pub small : 2 < level → (large_sweep sweep page).small ≤ page / 2 ^ 9 → (large_sweep sweep page).used < count
   pub middle : 2 < level → (large_sweep sweep page).middle < count
   pub place : leaf_place (leaf_sweep sweep page level) page level < count
-
--- the tables on the way to a page are linked, and the page is not the first of its 2 MiB region
-pub record IsInLinked (sweep : Sweep) (page : ℕ) : Type 0 where
-  pub large : page / 2 ^ 18 < sweep.large
-  pub small : page / 2 ^ 9 < sweep.small
-  pub behind : 0 < page % 2 ^ 9

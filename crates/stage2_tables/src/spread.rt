@@ -6,8 +6,8 @@ ghost use Rattle.dl_base.specs.Regions.{table_count};
 ghost use Rattle.stage2_walk.specs.Pages.{frames_of, blank_page};
 ghost use Rattle.stage2_tables.specs.TableFrames.{AreTableFrames};
 ghost use Rattle.stage2_tables.specs.Least.{least_image};
-ghost use Rattle.stage2_tables.specs.Leaves.{IsFresh};
-ghost use Rattle.stage2_tables.specs.Steps.{IsInLinked};
+ghost use Rattle.stage2_tables.specs.PrivateLeaves.{IsFresh};
+ghost use Rattle.stage2_tables.specs.PrivateSteps.{IsInLinked};
 ghost use Rattle.stage2_tables.specs.Sweeps.{IsCounted, IsSweptTo};
 
 use crate::leaf::{leaf_level, leaf_word, stretch};

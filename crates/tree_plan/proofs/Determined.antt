@@ -30,7 +30,7 @@ use Rattle.domain_plan.proofs.OwnItems.{own_passed, own_items, same_ranges}
 use Rattle.domain_plan.proofs.ReadyLemmas.{ready}
 use Rattle.tree_plan.specs.Descriptions.{Description, host_of, guests_of, frames_as_ranges}
 use Rattle.tree_plan.specs.TreePlans.{guest_plan, guest_plans, items_in, plan_from, plan_of}
-use Rattle.tree_plan.specs.HeldGuests.{unheld, unheld_host}
+use Rattle.tree_plan.specs.PrivateHeldGuests.{unheld, unheld_host}
 use Rattle.tree_plan.proofs.FrameRanges.{frames_as_ranges-frames_in}
 use Rattle.tree_plan.proofs.MapRanges.{one_list}
 use Rattle.tree_plan.proofs.Unheld.{passed_unheld, outcome_unheld, plans_unheld, read_held}

@@ -16,7 +16,7 @@ use Rattle.domain_plan.specs.declared.described.Guest.{Guest}
 use Rattle.dl_base.specs.declared.loaded.Loaded.{Loaded}
 use Rattle.domain_plan.specs.declared.described.PartialState.TheVariants as states
 use Rattle.tree_plan.specs.Descriptions.{description_of, domain_of, guest_of, guests_from, guests_of, partial_at, partial_state, trees_in}
-use Rattle.tree_plan.specs.HeldGuests.{held_guest, unheld}
+use Rattle.tree_plan.specs.PrivateHeldGuests.{held_guest, unheld}
 
 module _ (document : Document) (partials : List (Option Tree)) where
   held_one : (number held : ℕ) → unheld (held_guest document partials (domain_at document number held)) ≡ guest_of document.tree number (node_of document held) (partial_at partials number)

@@ -13,7 +13,7 @@ use Rattle.domain_plan.specs.Entries.{Entry, joined, of_host, of_guest, items_of
 use Rattle.domain_plan.specs.Plans.{passed_of, outcome, unless_refused, IsGuestPlan, AreGuestPlans}
 use Rattle.domain_plan.specs.Refusals.{Refusal, first_refused}
 use Rattle.domain_plan.specs.Taken.{Passed, all_passed}
-use Rattle.tree_plan.specs.HeldGuests.{unheld, unheld_host}
+use Rattle.tree_plan.specs.PrivateHeldGuests.{unheld, unheld_host}
 
 entries_unheld : (number : ℕ) (guests : List Guest) → guest_entries number (map unheld guests) ≡ guest_entries number guests
 entries_unheld number [] = refl

@@ -1,3 +1,3 @@
 pub mod Descriptions
+pub mod PrivateHeldGuests
 pub mod TreePlans
-pub mod HeldGuests

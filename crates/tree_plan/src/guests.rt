@@ -2,7 +2,7 @@
 ghost use Rattle.std.specs.Prelude.{◌≡◌, ◌<◌, IfOk, length, map};
 ghost use Rattle.domain_bindings.specs.Domains.{guest_nodes};
 ghost use Rattle.tree_plan.specs.Descriptions.{guests_from, partial_at, partial_state, trees_in};
-ghost use Rattle.tree_plan.specs.HeldGuests.{held_guest, unheld};
+ghost use Rattle.tree_plan.specs.PrivateHeldGuests.{held_guest, unheld};
 
 use dl_base::List;
 use domain_bindings::{Domain, read_domains};

@@ -4,7 +4,7 @@ use Rattle.tree_plan.specs.Descriptions.{trees_in}
 use Rattle.build_outputs.specs.Lengths.{refused_trees}
 use Rattle.build_outputs.specs.Made.{files_in}
 use Rattle.build_outputs.specs.Outputs.{in_folder, tree_outputs}
-use Rattle.build_outputs.specs.Spelled.{AreSpelled}
+use Rattle.build_outputs.specs.PrivateSpelled.{AreSpelled}
 use Rattle.build_outputs.proofs.trees.write_trees.Given as goal
 
 -- the trees of the guests so far are written, spell what they are to spell, and are not too long

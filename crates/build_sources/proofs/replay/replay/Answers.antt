@@ -1,6 +1,6 @@
 use Rattle.std.specs.Option.{option_copied}
 use Rattle.build_sources.specs.Meant.{meant_stand}
-use Rattle.build_sources.specs.Replays.{AfterScriptRead}
+use Rattle.build_sources.specs.PrivateReplays.{AfterScriptRead}
 use Rattle.build_sources.specs.Sources.{AfterScriptFile}
 use Rattle.build_sources.proofs.Handing.{then_hands, then_stops}
 use Rattle.build_sources.proofs.SourceSteps.{script_file_step}

@@ -1,6 +1,6 @@
 use Rattle.std.specs.Option.{option_copied}
 use Rattle.run_steps.specs.Trees.{flat_tree, AfterTreeFile}
-use Rattle.build_sources.specs.Replays.{AfterTreeRead}
+use Rattle.build_sources.specs.PrivateReplays.{AfterTreeRead}
 use Rattle.build_sources.proofs.Handing.{then_stops, handed}
 use Rattle.build_sources.proofs.SourceSteps.{tree_step}
 use Rattle.run_steps.proofs.ReadingSteps.{tree_file_step}

@@ -2,7 +2,7 @@ use Rattle.std.proofs.Common.{rules, ◌≡◌, Err}
 use Rattle.std.specs.Option.{option_copied}
 use Rattle.run_steps.specs.Trees.{flat_tree}
 use Rattle.build_sources.specs.Meant.{meant_stand}
-use Rattle.build_sources.specs.Replays.{AfterSized}
+use Rattle.build_sources.specs.PrivateReplays.{AfterSized}
 use Rattle.build_sources.specs.Sources.{AfterLoadSizes}
 use Rattle.build_sources.proofs.Handing.{first_stops, then_hands, then_stops_anyway}
 use Rattle.build_sources.proofs.SourceSteps.{load_sizes_step}

@@ -3,7 +3,7 @@ use Rattle.std.specs.Option.{option_copied}
 use Rattle.build_sources.specs.Configs.{AfterMade}
 use Rattle.build_sources.specs.Handed.{HandsOn}
 use Rattle.build_sources.specs.Meant.{meant_made, meant_stand}
-use Rattle.build_sources.specs.Replays.{AfterMadeRun}
+use Rattle.build_sources.specs.PrivateReplays.{AfterMadeRun}
 use Rattle.build_sources.proofs.ConfigSteps.{made_step}
 use Rattle.build_sources.proofs.Edited.{named, sized, stands_on_edited}
 use Rattle.build_sources.proofs.Handing.{ok_as, handed, handed_step, first_stops, then_hands, then_stops_anyway}

@@ -4,7 +4,7 @@ use Rattle.run_steps.specs.Endings.{Builds}
 use Rattle.run_steps.specs.Steps.{nothing}
 use Rattle.run_steps.proofs.Due.{own_due}
 use Rattle.build_outputs.specs.Builds.{AfterItems}
-use Rattle.build_outputs.specs.Isolation.{IsBuildOf}
+use Rattle.build_outputs.specs.Promises.{IsBuildOf}
 use Rattle.build_outputs.specs.Made.{files_in}
 use Rattle.dom0less.specs.Generated.{generated_description, totals_line, IsTotalsWriting, IsGeneratedJob}
 use Rattle.dom0less.proofs.Stands.{items_step}

@@ -2,7 +2,7 @@ use Rattle.std.proofs.Common.{List, length}
 use Rattle.std.proofs.lemmas.Iterator.Consumers.{YieldsList-from_first, YieldsList-turn}
 use Rattle.fdt_read.specs.Spelling.{spelled_whole}
 use Rattle.fdt_read.specs.Tokens.{Token}
-use Rattle.fdt_write.specs.Held.{held}
+use Rattle.fdt_write.specs.PrivateHeld.{held}
 use Rattle.fdt_write.specs.Meaning.{meaning}
 use Rattle.fdt_write.proofs.NamedLemmas.{named-at, fits-at}
 use Rattle.fdt_write.proofs.blocks.push_structure.Goals as goal

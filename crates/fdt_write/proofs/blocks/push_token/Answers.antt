@@ -1,9 +1,9 @@
 use Rattle.std.proofs.Common.{◌≡◌, ◌++◌, true, length, sym, ap, ◌∙◌, arith}
 use Rattle.fdt_write.specs.Blocks.{word_bytes, with_padding, token_bytes}
-use Rattle.fdt_write.specs.Held.{held}
+use Rattle.fdt_write.specs.PrivateHeld.{held}
 use Rattle.fdt_write.specs.Meaning.{meaning}
 use Rattle.fdt_write.specs.Strings.{is_among}
-use Rattle.fdt_write.specs.Used.{is_named}
+use Rattle.fdt_write.specs.PrivateUsed.{is_named}
 use Rattle.fdt_write.proofs.Appending.{OnOk-then}
 use Rattle.fdt_write.proofs.NamedLemmas.{offset-found}
 use Rattle.fdt_write.proofs.blocks.push_token.Goals as goal

@@ -1,4 +1,4 @@
-use Rattle.fdt_write.specs.Held.{held}
+use Rattle.fdt_write.specs.PrivateHeld.{held}
 use Rattle.fdt_write.proofs.Whole.{all-parts}
 use Rattle.fdt_write.proofs.flat.push_all.Goals as goal
 

@@ -1,6 +1,6 @@
 use Rattle.std.proofs.Common.{◌≡◌, length, refl, ap, ◌∙◌, inr, arith}
 use Rattle.fdt_write.specs.Flattened.{flattened}
-use Rattle.fdt_write.specs.Names.{saturated}
+use Rattle.fdt_write.specs.PrivateNames.{saturated}
 use Rattle.fdt_write.specs.Strings.{strings, strings_of}
 use Rattle.fdt_write.proofs.Whole.{size-whole, sizes-exact}
 use Rattle.fdt_write.proofs.flat.write.Goals as goal

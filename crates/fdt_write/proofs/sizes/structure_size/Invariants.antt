@@ -1,7 +1,7 @@
 use Rattle.std.proofs.Common.{◌≡◌, length, map, flat_map}
 use Rattle.fdt_write.specs.Blocks.{token_bytes}
 use Rattle.fdt_write.specs.Meaning.{meaning}
-use Rattle.fdt_write.specs.Names.{saturated}
+use Rattle.fdt_write.specs.PrivateNames.{saturated}
 use Rattle.fdt_write.specs.Strings.{strings}
 use Rattle.fdt_write.proofs.sizes.structure_size.Given as goal
 

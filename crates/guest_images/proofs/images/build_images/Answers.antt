@@ -4,7 +4,7 @@ use Rattle.domain_plan.specs.declared.planned.GuestPlan.{GuestPlan}
 use Rattle.guest_images.specs.declared.images.GuestImage.{GuestImage}
 use Rattle.guest_images.specs.Built.{files_in, tables_counted}
 use Rattle.guest_images.specs.Requests.{tables_needed, no_table_frame, left_by, left_by_all, refused_tables}
-use Rattle.guest_images.specs.ImageFiles.{IsImageFile, AreImageFiles}
+use Rattle.guest_images.specs.PrivateImageFiles.{IsImageFile, AreImageFiles}
 use Rattle.guest_images.proofs.LeastFiles.{files_are_least}
 use Rattle.guest_images.proofs.WalksApart.{all_walk, images_meet, images_apart}
 use Rattle.guest_images.proofs.GuestByGuest.{left_more, images_more, met_more, next_of, refused_at}

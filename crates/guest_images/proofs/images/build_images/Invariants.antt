@@ -1,6 +1,6 @@
 use Rattle.std.proofs.Common.{◌≡◌, map, take, None}
 use Rattle.guest_images.specs.Requests.{tables_needed, left_by_all, refused_tables}
-use Rattle.guest_images.specs.ImageFiles.{AreImageFiles}
+use Rattle.guest_images.specs.PrivateImageFiles.{AreImageFiles}
 use Rattle.guest_images.specs.Built.{files_in, tables_counted}
 use Rattle.guest_images.proofs.images.build_images.Given as goal
 

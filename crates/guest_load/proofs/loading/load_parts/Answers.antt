@@ -1,6 +1,6 @@
 use Rattle.std.proofs.Common.{rules, ◌≡◌, Err}
 use Rattle.run_steps.proofs.Due.{own_due}
-use Rattle.guest_load.specs.Meant.{meant_parts}
+use Rattle.guest_load.specs.PrivateMeant.{meant_parts}
 use Rattle.guest_load.proofs.LoadingLemmas.{too_long, no_room}
 use Rattle.guest_load.proofs.loading.load_parts.Goals as goal
 

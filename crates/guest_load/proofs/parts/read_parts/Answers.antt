@@ -6,7 +6,7 @@ use Rattle.run_steps.specs.Steps.{nothing}
 use Rattle.run_steps.specs.Trees.{flat_tree}
 use Rattle.run_steps.proofs.Due.{due_here, due_later, grew_twice}
 use Rattle.guest_load.specs.Parts.{AfterGuest, AfterKernel, AfterRamdisk}
-use Rattle.guest_load.specs.Meant.{meant}
+use Rattle.guest_load.specs.PrivateMeant.{meant}
 use Rattle.guest_load.proofs.PartSteps.{IsKernel, refused_guest, refused_kernel, refused_ramdisk}
 use Rattle.guest_load.proofs.parts.read_parts.Goals as goal
 

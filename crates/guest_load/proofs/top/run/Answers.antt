@@ -3,7 +3,7 @@ use Rattle.std.specs.Prelude.{Option}
 use Rattle.run_steps.specs.Endings.{Refuses, Builds, and_files}
 use Rattle.dl_base.specs.Outside.{and_bytes}
 use Rattle.guest_load.specs.Job.{IsAskedJob, IsWordsJob}
-use Rattle.guest_load.specs.Meant.{meant}
+use Rattle.guest_load.specs.PrivateMeant.{meant}
 use Rattle.run_steps.specs.Outputs.{files_of, report_of}
 use Rattle.run_steps.proofs.Taken.{built_or_not}
 use Rattle.guest_load.specs.Words.{Asked}

@@ -1,7 +1,7 @@
 use Rattle.std.proofs.Common.{◌≡◌, length, drop, arith, length-drop, ap}
 use Rattle.ib_config.specs.Runs.{after_run}
 use Rattle.ib_config.proofs.RunLemmas.{length-after_run}
-use Rattle.ib_config.specs.Scan.{not_feed}
+use Rattle.ib_config.specs.PrivateScan.{not_feed}
 use Rattle.ib_config.proofs.assignments.cut_line.Goals as goal
 
 pub returns-clause-shorter : goal.returns-clause-shorter

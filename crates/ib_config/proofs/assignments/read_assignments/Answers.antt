@@ -1,6 +1,6 @@
 use Rattle.std.proofs.Common.{arith}
 use Rattle.std.proofs.lemmas.Bool.Decides.{nat_tests}
-use Rattle.ib_config.specs.Scan.{held}
+use Rattle.ib_config.specs.PrivateScan.{held}
 use Rattle.ib_config.proofs.AssignLemmas.{read_end, read_on}
 use Rattle.ib_config.proofs.assignments.read_assignments.Goals as goal
 

@@ -1,5 +1,5 @@
 use Rattle.std.proofs.Common.{length, ◌+◌, ◌≤◌, ◌≡◌}
-use Rattle.ib_config.specs.Scan.{held, file_read, rest_read}
+use Rattle.ib_config.specs.PrivateScan.{held, file_read, rest_read}
 use Rattle.ib_config.proofs.assignments.read_assignments.Given as goal
 
 -- what is left of the file, after what is assigned so far, comes to what the whole file does

@@ -1,6 +1,6 @@
 use Rattle.std.proofs.Common.{length, drop, ◌-◌, ◌+◌, ◌≤◌, ◌≡◌}
 use Rattle.std.specs.List.{prefix_len}
-use Rattle.ib_config.specs.Scan.{passes}
+use Rattle.ib_config.specs.PrivateScan.{passes}
 use Rattle.ib_config.proofs.classes.run_len.Given as goal
 
 -- what is left of the run begins at n

@@ -1,5 +1,5 @@
 use Rattle.std.proofs.Common.{arith, rules, ◌≡◌, ◌∙◌, Err, refl}
-use Rattle.ib_config.specs.Scan.{held, file_read}
+use Rattle.ib_config.specs.PrivateScan.{held, file_read}
 use Rattle.ib_config.specs.Settings.{settings_of, config_of}
 use Rattle.ib_config.proofs.ConfigLemmas.{config_is}
 use Rattle.ib_config.proofs.GuestLemmas.{hand_on}

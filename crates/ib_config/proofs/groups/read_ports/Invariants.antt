@@ -1,6 +1,6 @@
 use Rattle.std.proofs.Common.{◌≡◌, length}
 use Rattle.ib_config.specs.Rules.{words_of, port_groups}
-use Rattle.ib_config.specs.Words.{onto}
+use Rattle.ib_config.specs.PrivateWords.{onto}
 use Rattle.ib_config.proofs.WordLemmas.{IsAtWord}
 use Rattle.ib_config.proofs.groups.read_ports.Given as goal
 

@@ -1,7 +1,7 @@
 use Rattle.std.proofs.Common.{arith, ap, sym}
 use Rattle.std.proofs.lemmas.Bool.Decides.{nat_tests}
 use Rattle.ib_config.specs.Rules.{pairs}
-use Rattle.ib_config.specs.Words.{after_word}
+use Rattle.ib_config.specs.PrivateWords.{after_word}
 use Rattle.ib_config.proofs.WordLemmas.{groups_start, words_same, at_first, at_word, shorter_2, ranges_on, ranges_bad}
 use Rattle.ib_config.proofs.groups.read_ranges.Goals as goal
 

@@ -1,4 +1,4 @@
-use Rattle.ib_config.specs.Scan.{held}
+use Rattle.ib_config.specs.PrivateScan.{held}
 use Rattle.ib_config.specs.Settings.{ports_at}
 use Rattle.ib_config.proofs.GuestLemmas.{one_more, no_more}
 use Rattle.ib_config.proofs.guests.all_ports.Goals as goal

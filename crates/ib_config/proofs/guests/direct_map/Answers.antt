@@ -1,5 +1,5 @@
 use Rattle.std.proofs.Common.{◌≡◌, true, sym, ◌∙◌}
-use Rattle.ib_config.specs.Scan.{held}
+use Rattle.ib_config.specs.PrivateScan.{held}
 use Rattle.ib_config.specs.Settings.{is_static}
 use Rattle.ib_config.proofs.guests.direct_map.Goals as goal
 

@@ -1,5 +1,5 @@
 use Rattle.std.proofs.Common.{rules, ◌≡◌, Err, Some, refl}
-use Rattle.ib_config.specs.Scan.{held}
+use Rattle.ib_config.specs.PrivateScan.{held}
 use Rattle.ib_config.specs.Settings.{guest_settings, is_static, ports_at, direct_value}
 use Rattle.ib_config.specs.Variables as table
 use Rattle.ib_config.specs.Variables.{value_of}

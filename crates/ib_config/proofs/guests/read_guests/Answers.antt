@@ -1,5 +1,5 @@
 use Rattle.std.proofs.Common.{arith, rules, ◌≡◌, Err}
-use Rattle.ib_config.specs.Scan.{held}
+use Rattle.ib_config.specs.PrivateScan.{held}
 use Rattle.ib_config.specs.Settings.{guest_settings}
 use Rattle.ib_config.proofs.GuestLemmas.{each_start, each_on, each_bad, each_end, guest_number}
 use Rattle.ib_config.proofs.guests.read_guests.Goals as goal

@@ -1,5 +1,5 @@
 use Rattle.std.proofs.Common.{◌∙◌, sym, arith, refl}
-use Rattle.ib_config.specs.Scan.{held}
+use Rattle.ib_config.specs.PrivateScan.{held}
 use Rattle.ib_config.specs.Settings.{is_tested, shown_key, unused_names}
 use Rattle.ib_config.proofs.UnusedLemmas.{names_start, names_skip, names_add, names_end}
 use Rattle.ib_config.proofs.unused.read_unused.Goals.{then-not-branch+in_ok-shown+in_ok-push, else-not-branch}

@@ -5,7 +5,7 @@ use Rattle.domain_plan.specs.declared.planned.GuestPlan.{GuestPlan}
 use Rattle.run_steps.specs.Steps.{nothing}
 use Rattle.run_steps.proofs.Due.{due_later, grew_twice}
 use Rattle.image_audit.specs.Audits.{AfterAudit, AreAudited}
-use Rattle.image_audit.specs.Rests.{is_outside}
+use Rattle.image_audit.specs.PrivateRests.{is_outside}
 use Rattle.image_audit.proofs.AuditLoop.{audited_next, refused_next}
 use Rattle.image_audit.proofs.Isolated.{audit_of}
 use Rattle.image_audit.proofs.audit.audit_images.Goals as goal

@@ -1,5 +1,5 @@
 use Rattle.std.proofs.Common.{◌≡◌, ◌≤◌, drop, length}
-use Rattle.image_audit.specs.Partings.{parting}
+use Rattle.image_audit.specs.PrivatePartings.{parting}
 use Rattle.image_audit.proofs.differences.find_parting.Given as goal
 
 -- the lists part where what is left of them does

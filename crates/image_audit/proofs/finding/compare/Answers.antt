@@ -1,5 +1,5 @@
 use Rattle.std.proofs.Common.{◌∙◌, sym, ap, Some, None, ℕ, List}
-use Rattle.image_audit.specs.Rests.{is_outside}
+use Rattle.image_audit.specs.PrivateRests.{is_outside}
 use Rattle.image_audit.proofs.PlannedRanges.{page_low, differs, is_mapped_table, is_shared_table, not_some}
 use Rattle.image_audit.proofs.finding.compare.Goals as goal
 

@@ -1,6 +1,6 @@
 use Rattle.std.proofs.Common.{◌∙◌, ap, ℕ, List, Some}
 use Rattle.stage2_walk.specs.TableImages.{TableImage}
-use Rattle.image_audit.specs.Rests.{is_outside}
+use Rattle.image_audit.specs.PrivateRests.{is_outside}
 use Rattle.image_audit.proofs.Torn.{torn, whole}
 use Rattle.image_audit.proofs.finding.find_finding.Goals as goal
 

@@ -1,5 +1,5 @@
 use Rattle.std.proofs.Common.{◌≡◌, ◌++◌, map, take}
-use Rattle.image_audit.specs.Rests.{host_frames}
+use Rattle.image_audit.specs.PrivateRests.{host_frames}
 use Rattle.image_audit.proofs.frames.append_mapped.Given as goal
 
 -- the frames of the ranges so far are added

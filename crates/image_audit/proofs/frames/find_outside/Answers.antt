@@ -2,7 +2,7 @@ use Rattle.std.proofs.Common.{◌≡◌, ◌∙◌, ◌<◌, sym, ap, length, Li
 use Rattle.std.specs.Prelude.{not}
 use Rattle.std.proofs.lemmas.List.{length-map}
 use Rattle.stage2_walk.specs.Pages.{Page, frames_of}
-use Rattle.image_audit.specs.Rests.{is_outside}
+use Rattle.image_audit.specs.PrivateRests.{is_outside}
 use Rattle.image_audit.proofs.LeftFrames.{lies_in_one, found_here, found_later}
 use Rattle.image_audit.proofs.frames.find_outside.Goals as goal
 

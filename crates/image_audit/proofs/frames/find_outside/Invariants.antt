@@ -1,7 +1,7 @@
 use Rattle.std.proofs.Common.{◌≡◌, drop}
 use Rattle.std.specs.Prelude.{find}
 use Rattle.stage2_walk.specs.Pages.{frames_of}
-use Rattle.image_audit.specs.Rests.{is_outside}
+use Rattle.image_audit.specs.PrivateRests.{is_outside}
 use Rattle.image_audit.proofs.frames.find_outside.Given as goal
 
 -- the first table outside is the first of those that are left

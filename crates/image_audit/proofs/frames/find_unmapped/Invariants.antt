@@ -1,6 +1,6 @@
 use Rattle.std.proofs.Common.{◌≡◌, flat_map, map, take}
 use Rattle.domain_plan.specs.declared.planned.GuestPlan.{GuestPlan}
-use Rattle.image_audit.specs.Rests.{host_frames}
+use Rattle.image_audit.specs.PrivateRests.{host_frames}
 use Rattle.image_audit.proofs.frames.find_unmapped.Given as goal
 
 -- the frames of the guests so far are taken

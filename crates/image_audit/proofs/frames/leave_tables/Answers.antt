@@ -1,7 +1,7 @@
 use Rattle.std.proofs.Common.{◌≡◌, ◌∙◌, ◌≤◌, ℕ, List, ap, length, map, take, arith}
 use Rattle.std.proofs.lemmas.List.{length-map, take_all}
 use Rattle.stage2_walk.specs.Pages.{Page, frames_of}
-use Rattle.image_audit.specs.Rests.{one_frame}
+use Rattle.image_audit.specs.PrivateRests.{one_frame}
 use Rattle.image_audit.proofs.LeftFrames.{tables_left, both_ok}
 use Rattle.image_audit.proofs.frames.leave_tables.Goals as goal
 

@@ -1,6 +1,6 @@
 use Rattle.std.proofs.Common.{◌≡◌, map, take, All}
 use Rattle.stage2_walk.specs.Pages.{frames_of}
-use Rattle.image_audit.specs.Rests.{one_frame}
+use Rattle.image_audit.specs.PrivateRests.{one_frame}
 use Rattle.image_audit.proofs.LeftFrames.{IsLow}
 use Rattle.image_audit.proofs.frames.leave_tables.Given as goal
 

@@ -20,6 +20,6 @@ loop-output-preserved g c = (
   grind (arith, common_steps),
   search rules,
   λ takes.
-    (takes_output (g.O.Outs.room c.loop-output.outs) (g.O.Outs.room c.write.new.self) c.args.outputs.now c.loop-output.output-index c.output-item.result (IsOk c.write.result) c.loop-output-test.true c.output-item.is
-    (rw (← c.as_str.ensures, ← c.as_slice.ensures) c.write.ensures.room) (c.loop-output.invariant.2 takes)).1,
+      (takes_output (g.O.Outs.room c.loop-output.outs) (g.O.Outs.room c.write.new.self) c.args.outputs.now c.loop-output.output-index c.output-item.result (IsOk c.write.result) c.loop-output-test.true c.output-item.is
+      (rw (← c.as_str.ensures, ← c.as_slice.ensures) c.write.ensures.room) (c.loop-output.invariant.2 takes)).1,
 )

@@ -1,6 +1,6 @@
 use Rattle.std.proofs.Common.{◌≡◌, suc, ◌+◌, length, Ok, Err, ap, subst, ◌∙◌, arith}
 use Rattle.script_run.specs.Effect.{tree_size, has_good_name, has_good_names}
-use Rattle.script_run.specs.Moves.{IsAt, IsMoved}
+use Rattle.script_run.specs.PrivateMoves.{IsAt, IsMoved}
 use Rattle.script_run.proofs.MachineLemmas.{all_at, indexed, IsAt-next, ended, IsAt-first, IsAt-last}
 use Rattle.script_run.proofs.machine.run.Goals as goal
 

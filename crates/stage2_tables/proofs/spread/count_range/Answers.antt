@@ -3,7 +3,8 @@ use Rattle.std.proofs.lemmas.Option.{same_Some}
 use Rattle.dl_base.specs.Maps.{target_of}
 use Rattle.dl_base.specs.declared.ranges.Kind.TheVariants.{Ram}
 use Rattle.dl_base.specs.declared.ranges.MapRange.{MapRange}
-use Rattle.stage2_tables.specs.Leaves.{stretch, IsFresh}
+use Rattle.stage2_tables.specs.Leaves.{stretch}
+use Rattle.stage2_tables.specs.PrivateLeaves.{IsFresh}
 use Rattle.stage2_tables.specs.Sweeps.{IsCounted}
 use Rattle.stage2_tables.specs.declared.sweep.Sweep.{Sweep}
 use Rattle.stage2_tables.proofs.LeafChoice.{IsRange, fresh_first}

@@ -5,8 +5,9 @@ use Rattle.dl_base.specs.Maps.{target_of}
 use Rattle.dl_base.specs.Regions.{span}
 use Rattle.dl_base.specs.declared.ranges.Kind.TheVariants.{Ram}
 use Rattle.dl_base.specs.declared.ranges.MapRange.{MapRange}
-use Rattle.stage2_tables.specs.Leaves.{stretch, IsFresh}
-use Rattle.stage2_tables.specs.Steps.{IsInLinked}
+use Rattle.stage2_tables.specs.Leaves.{stretch}
+use Rattle.stage2_tables.specs.PrivateLeaves.{IsFresh}
+use Rattle.stage2_tables.specs.PrivateSteps.{IsInLinked}
 use Rattle.stage2_tables.specs.Sweeps.{IsSweptTo}
 use Rattle.stage2_tables.specs.declared.sweep.Sweep.{Sweep}
 use Rattle.stage2_tables.proofs.LeafChoice.{IsRange, fresh_first}

@@ -1,7 +1,7 @@
 use Rattle.std.proofs.Common.{◌≡◌, ◌+◌, ◌-◌, ◌≤◌}
 use Rattle.dl_base.specs.Maps.{target_of}
 use Rattle.stage2_walk.specs.Pages.{frames_of}
-use Rattle.stage2_tables.specs.Leaves.{IsFresh}
+use Rattle.stage2_tables.specs.PrivateLeaves.{IsFresh}
 use Rattle.stage2_tables.specs.Sweeps.{IsSweptTo}
 use Rattle.stage2_tables.proofs.spread.spread_range.Given as goal
 

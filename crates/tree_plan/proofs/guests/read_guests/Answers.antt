@@ -3,7 +3,7 @@ use Rattle.std.proofs.lemmas.Iterator.Consumers.{YieldsList-turn, YieldsList-end
 use Rattle.std.proofs.lemmas.Iterator.Adapters.{YieldsList-from_vec}
 use Rattle.domain_bindings.specs.declared.domain.Domain.{Domain}
 use Rattle.tree_plan.specs.Descriptions.{trees_in}
-use Rattle.tree_plan.specs.HeldGuests.{held_guest, unheld}
+use Rattle.tree_plan.specs.PrivateHeldGuests.{held_guest, unheld}
 use Rattle.tree_plan.proofs.HeldLemmas.{each_live, held_guests}
 use Rattle.tree_plan.proofs.guests.read_guests.Goals as goal
 

@@ -1,6 +1,6 @@
 use Rattle.std.proofs.Common.{◌≡◌, map}
 use Rattle.tree_plan.specs.Descriptions.{trees_in}
-use Rattle.tree_plan.specs.HeldGuests.{held_guest}
+use Rattle.tree_plan.specs.PrivateHeldGuests.{held_guest}
 use Rattle.tree_plan.proofs.guests.read_guests.Given as goal
 
 -- the guests of the domains so far

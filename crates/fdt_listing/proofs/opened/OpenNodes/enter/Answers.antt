@@ -1,5 +1,5 @@
 use Rattle.std.proofs.Common.{◌≡◌, ◌==◌, ℕ, List, [], ◌∷◌, ◌++◌, length, ap, sym, ◌∙◌}
-use Rattle.fdt_listing.specs.Opened.{path_inside}
+use Rattle.fdt_listing.specs.PrivateOpened.{path_inside}
 use Rattle.fdt_listing.proofs.OpenLemmas.{root-opened, node-opened}
 use Rattle.fdt_listing.proofs.opened.OpenNodes.enter.Goals as goal
 use Rattle.fdt_listing.proofs.opened.OpenNodes.enter.Goals.{then-is_empty, else-is_empty+in_ok-append_name}

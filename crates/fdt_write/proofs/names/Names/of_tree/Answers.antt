@@ -2,7 +2,7 @@ use Rattle.std.proofs.Common.{List}
 use Rattle.std.proofs.lemmas.Iterator.Consumers.{YieldsList-from_first, YieldsList-end}
 use Rattle.fdt_read.specs.Spelling.{spelled_whole}
 use Rattle.fdt_read.specs.Tokens.{Token}
-use Rattle.fdt_write.specs.Held.{held}
+use Rattle.fdt_write.specs.PrivateHeld.{held}
 use Rattle.fdt_write.specs.Meaning.{meaning}
 use Rattle.fdt_write.proofs.UsedLemmas.{names-step, names-all}
 use Rattle.fdt_write.proofs.names.Names.of_tree.Goals as goal

@@ -1,5 +1,5 @@
 use Rattle.std.proofs.Common.{◌≡◌, [], map}
-use Rattle.fdt_write.specs.Held.{held}
+use Rattle.fdt_write.specs.PrivateHeld.{held}
 use Rattle.fdt_write.specs.Meaning.{meaning}
 use Rattle.fdt_write.specs.Strings.{firsts}
 use Rattle.fdt_write.proofs.UsedLemmas.{used}

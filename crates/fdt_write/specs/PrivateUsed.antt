@@ -3,7 +3,7 @@ use Rattle.std.specs.Prelude.{Bool, true, List, Some}
 use Rattle.fdt_tree.specs.Tree.{Bytes}
 use Rattle.fdt_read.specs.Tokens.{Token, property}
 use Rattle.fdt_write.specs.Strings.{is_among}
-use Rattle.fdt_write.specs.Names.{with_name}
+use Rattle.fdt_write.specs.PrivateNames.{with_name}
 
 -- The names, and that of a property, if it is not among them.
 abbrev pub with_used : List Bytes → Token → List Bytes

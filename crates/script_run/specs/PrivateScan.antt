@@ -2,7 +2,7 @@
 use Rattle.std.specs.Prelude.{ℕ, Bool, not, List, ◌++◌, Option, Some, None, Result, Ok, Err, if◌then◌else◌}
 use Rattle.std.specs.List.{list_all}
 use Rattle.ib_config.specs.Line.{is_blank, not_blank, until}
-use Rattle.ib_config.specs.Words.{is_space}
+use Rattle.ib_config.specs.PrivateWords.{is_space}
 use Rattle.ib_script.specs.declared.command.Command.{Command}
 use Rattle.script_run.specs.declared.classes.Class.{Class}
 use Rattle.script_run.specs.declared.classes.Class.TheVariants.{Blank, Bare, Space, Until}
