@@ -1,10 +1,12 @@
--- For proofs, private contracts and the model of `Tree` alone: a tree held as a list of nodes, each with the number of its parent, is what adding them one by one gives.
-use Rattle.std.specs.Prelude.{◌≡◌, IsTrue, ℕ, zero, suc, ◌+◌, ◌<◌, ◌≢◌, ◌≤◌, slice_get, option_map, Some, List, [], ◌∷◌, ◌++◌, fold, map, length, refl}
+-- For proofs, private contracts and the model of `Tree` alone: a tree held as a list of nodes and a list of properties, both linked by number, is what adding the nodes one by one gives, each below its parent; and a link leads where the tree has what it is a link to.
+use Rattle.std.specs.Option.{option_map_or}
+use Rattle.std.specs.Prelude.{◌≡◌, IsTrue, ℕ, zero, suc, ◌+◌, ◌==◌, ◌<◌, ◌≢◌, ◌≤◌, ⊤, slice_get, drop, unwrap_or, bytes_eq, ◌&&◌, if◌then◌else◌, option_map, option_and_then, Option, Some, None, IfSome, List, [], ◌∷◌, ◌++◌, fold, length, refl}
 use Rattle.std.specs.Coded.{Coded, code_by, coded_list, coded×, coded_ℕ}
-use Rattle.fdt_tree.specs.Tree.{Bytes, Property, Tree, Place, count, depth, depth_limit, is_node_name}
+use Rattle.fdt_tree.specs.Tree.{Bytes, Property, Tree, Place, count, depth, depth_limit, is_node_name, is_property_name}
 use Rattle.fdt_tree.specs.CodedTrees.{coded_tree}
-use Rattle.fdt_tree.specs.Document.{Document, empty, place_of, node_at, with_node, with_properties, have_names}
+use Rattle.fdt_tree.specs.Document.{Document, empty, place_of, node_at, children_at, if_there, next_place, parent_place, with_node, with_properties}
 use Rattle.fdt_tree.specs.declared.node.Node.{Node}
+use Rattle.fdt_tree.specs.declared.node.Slot.{Slot}
 
 -- A document, coded by its two parts.
 abbrev pub coded_document : Coded Document
@@ -16,10 +18,6 @@ pub record Added : Type 0 where
   pub parent : ℕ
   pub name : Bytes
   pub properties : List Property
-
--- What was said of a node of the code as it was added, and the properties that it has by now.
-abbrev pub added : Node → Added
-added node = record { parent = node.parent; name = node.name; properties = node.properties }
 
 -- With one node more, below its parent.
 abbrev pub grown : Document → Added → Document
@@ -34,49 +32,175 @@ abbrev pub assembled : List Added → Document
 assembled [] = empty
 assembled (root ∷ rest) = fold grown (rooted root.properties) rest
 
--- The nodes of the code, as they were added.
-abbrev pub document : List Node → Document
-document nodes = assembled (map added nodes)
+-- The properties of a node: those that belong to it, in the order of the slots.
+abbrev pub owned : ℕ → List Slot → List Property
+owned node [] = []
+owned node (slot ∷ slots) = if slot.owner == node then (slot.name, slot.value) ∷ owned node slots else owned node slots
+
+-- A node of the arena as it is added, with the properties that it has by now.
+abbrev pub added : ℕ → Node → List Slot → Added
+added number node slots = record { parent = node.parent; name = node.name; properties = owned number slots }
+
+-- The nodes of the arena as they are added, where the first has this number.
+abbrev pub rows : ℕ → List Node → List Slot → List Added
+rows first [] slots = []
+rows first (node ∷ nodes) slots = added first node slots ∷ rows (suc first) nodes slots
+
+-- What an arena holds.
+abbrev pub document : List Node → List Slot → Document
+document nodes slots = assembled (rows 0 nodes slots)
+
+-- The first slot of a node among slots of which the first has this number.
+abbrev pub first_owned : ℕ → ℕ → List Slot → Option ℕ
+first_owned node number [] = None
+first_owned node number (slot ∷ slots) = if slot.owner == node then Some number else first_owned node (suc number) slots
+
+-- The last slot of a node among slots of which the first has this number; before them, this one was it.
+abbrev pub last_owned : Option ℕ → ℕ → ℕ → List Slot → Option ℕ
+last_owned before node number [] = before
+last_owned before node number (slot ∷ slots) =
+    last_owned (if slot.owner == node then Some number else before) node (suc number) slots
+
+-- Each slot is linked to the next one of its node.
+abbrev pub IsChained : ℕ → List Slot → Type 0
+IsChained number [] = ⊤
+IsChained number (slot ∷ slots) = (slot.next ≡ first_owned slot.owner (suc number) slots) × IsChained (suc number) slots
 
 -- The name, the properties and the number of children of a node.
 abbrev pub summary : Tree → Bytes × (List Property × ℕ)
 summary node = (node.name, (node.properties, count node.children))
 
--- What a node of the code says is what stands at its place.
-pub record IsNodeOf (doc : Document) (number : ℕ) (node : Node) : Type 0 where
-  -- its name, its properties and how many children it has
-  pub says : option_map summary (node_at doc number) ≡ Some (node.name, (node.properties, length node.children))
-  pub depth_of_node : node.depth ≡ depth (place_of doc number)
-  pub shallow : node.depth ≤ depth_limit
+-- The name and the properties of a node.
+abbrev pub face : Tree → Bytes × List Property
+face node = (node.name, node.properties)
+
+-- The last of so many children of the node at a place.
+abbrev pub last_place : Place → ℕ → Option Place
+last_place place zero = None
+last_place place (suc before) = Some (place ++ before ∷ [])
+
+-- So many properties stand side by side right after the first one, and belong to one node with it.
+abbrev pub StandBeside : ℕ → Option ℕ → ℕ → List Slot → Type 0
+StandBeside owner first run slots =
+    (start index : ℕ) → first ≡ Some start → index ≤ run → option_map (λ slot. slot.owner) (slice_get slots (start + index)) ≡ Some owner
+
+-- A link from a node leads to a node after it.
+abbrev pub LeadsOn : Document → ℕ → Option ℕ → Type 0
+LeadsOn doc number link = IfSome link (λ other. (number < other) × (other < length doc.places))
+
+-- What a node of the arena says is what stands at its place.
+pub record IsNodeOf (doc : Document) (number : ℕ) (node : Node) (slots : List Slot) : Type 0 where
+  -- its name and its properties
+  pub says : option_map face (node_at doc number) ≡ Some (node.name, owned number slots)
+  -- it has a name that it may have, unless it is the root, and stands no deeper than the limit
+  pub named : number ≢ 0 → IsTrue (is_node_name node.name)
+  pub shallow : depth (place_of doc number) ≤ depth_limit
   -- its parent came before it, and stands right above its place
   pub earlier : number ≢ 0 → node.parent < number
-  pub above : number ≢ 0 → place_of doc number ≡ place_of doc node.parent ++ node.position ∷ []
-  -- each of its children came after it and after the child before, and stands at its index right below
-  pub later : (index child : ℕ) → slice_get node.children index ≡ Some child → number < child
-  pub ascending : (index child next : ℕ) → slice_get node.children index ≡ Some child → slice_get node.children (index + 1) ≡ Some next → child < next
-  pub children : (index child : ℕ) → slice_get node.children index ≡ Some child → (child < length doc.places) × (place_of doc child ≡ place_of doc number ++ index ∷ [])
+  pub above : number ≢ 0 → parent_place (place_of doc number) ≡ Some (place_of doc node.parent)
+  -- its links to nodes go to higher numbers
+  pub first_on : LeadsOn doc number node.first_child
+  pub next_on : LeadsOn doc number node.next_sibling
+  pub last_on : LeadsOn doc number node.last_child
+  -- they lead to its first child, to the node right after it among its parent's children, and to its last child
+  pub first : option_map (place_of doc) node.first_child ≡ if_there doc (place_of doc number ++ 0 ∷ [])
+  pub next : option_map (place_of doc) node.next_sibling ≡ option_and_then (if_there doc) (next_place (place_of doc number))
+  pub last : option_map (place_of doc) node.last_child ≡ last_place (place_of doc number) (children_at doc.tree (place_of doc number))
+  -- it counts its properties, and those that stand side by side after its first one
+  pub counted : node.property_count ≡ length (owned number slots)
+  pub beside : StandBeside number node.first_property node.run slots
+  -- its links to properties lead to the first and the last of those that belong to it
+  pub first_slot : node.first_property ≡ first_owned number 0 slots
+  pub last_slot : node.last_property ≡ last_owned None number 0 slots
 
--- A node of the code has a name that it may have, unless it is the root, and so has each of its properties.
-pub record HasNames (number : ℕ) (node : Node) : Type 0 where
-  pub name : number ≢ 0 → IsTrue (is_node_name node.name)
-  pub properties : IsTrue (have_names node.properties)
-
--- The nodes of the code are the nodes of the document, one for one.
-pub record IsLinked (doc : Document) (nodes : List Node) : Type 0 where
+-- The nodes of the arena are the nodes of the document, one for one; and each property belongs to one of them, and has a name that it may have.
+pub record IsLinked (doc : Document) (nodes : List Node) (slots : List Slot) : Type 0 where
   pub some : 0 < length nodes
   pub root : place_of doc 0 ≡ []
   pub unnamed : doc.tree.name ≡ []
   pub numbered : length doc.places ≡ length nodes
-  pub nodes_of : (number : ℕ) (node : Node) → slice_get nodes number ≡ Some node → IsNodeOf doc number node
-  pub named : (number : ℕ) (node : Node) → slice_get nodes number ≡ Some node → HasNames number node
+  pub nodes_of : (number : ℕ) (node : Node) → slice_get nodes number ≡ Some node → IsNodeOf doc number node slots
   pub distinct : (one other : ℕ) → one < length nodes → other < length nodes → place_of doc one ≡ place_of doc other → one ≡ other
+  pub chained : IsChained 0 slots
+  pub owners : (number : ℕ) (slot : Slot) → slice_get slots number ≡ Some slot → slot.owner < length nodes
+  pub slots_named : (number : ℕ) (slot : Slot) → slice_get slots number ≡ Some slot → IsTrue (is_property_name slot.name)
 
--- The nodes, where one has one more child, a number.
-abbrev pub with_child_number : List Node → ℕ → ℕ → List Node
-with_child_number [] parent child = []
-with_child_number (node ∷ nodes) zero child = record node { children = node.children ++ child ∷ [] } ∷ nodes
-with_child_number (node ∷ nodes) (suc parent) child = node ∷ with_child_number nodes parent child
+-- A node below this parent with no property and no child.
+abbrev pub fresh : ℕ → Bytes → Node
+fresh parent name = record {
+  parent = parent;
+  name = name;
+  first_child = None;
+  last_child = None;
+  next_sibling = None;
+  first_property = None;
+  last_property = None;
+  property_count = 0;
+  run = 0;
+}
 
--- The nodes with a new last one, which is the last child of a node.
-abbrev pub linked : List Node → ℕ → Node → List Node
-linked nodes parent node = with_child_number nodes parent (length nodes) ++ node ∷ []
+-- A list with one item changed.
+abbrev pub modified : {A : Type 0} → (A → A) → ℕ → List A → List A
+modified change number [] = []
+modified change zero (item ∷ items) = change item ∷ items
+modified change (suc number) (item ∷ items) = item ∷ modified change number items
+
+-- A node whose first child has this number.
+abbrev pub with_first_child : ℕ → Node → Node
+with_first_child child node = record node { first_child = Some child }
+
+-- A node whose next sibling has this number.
+abbrev pub with_next_sibling : ℕ → Node → Node
+with_next_sibling sibling node = record node { next_sibling = Some sibling }
+
+-- A node whose last child has this number.
+abbrev pub with_last_child : ℕ → Node → Node
+with_last_child child node = record node { last_child = Some child }
+
+-- The nodes, where the last child of a parent, if it has one, is linked to a new one, and otherwise the parent is.
+abbrev pub followed : Option ℕ → ℕ → ℕ → List Node → List Node
+followed None parent child nodes = modified (with_first_child child) parent nodes
+followed (Some last) parent child nodes = modified (with_next_sibling child) last nodes
+
+-- The nodes with a new last one, which is the last child of a node whose last child was given.
+abbrev pub linked : List Node → ℕ → Option ℕ → Node → List Node
+linked nodes parent last node =
+    modified (with_last_child (length nodes)) parent (followed last parent (length nodes) (nodes ++ node ∷ []))
+
+-- The properties from a slot on: it, and those after it that belong to its node.
+abbrev pub from : List Slot → Option ℕ → List Property
+from slots None = []
+from slots (Some number) = option_map_or (λ slot. owned slot.owner (drop number slots)) (slice_get slots number) []
+
+-- A slot that is followed by the slot of this number.
+abbrev pub with_next : ℕ → Slot → Slot
+with_next next slot = record slot { next = Some next }
+
+-- The slots with a new last one, which follows one of them, if there is one.
+abbrev pub chained_after : Option ℕ → List Slot → Slot → List Slot
+chained_after None slots slot = slots ++ slot ∷ []
+chained_after (Some last) slots slot = modified (with_next (length slots)) last (slots ++ slot ∷ [])
+
+-- How many properties stand side by side right after the first one, if there is one, where another stands at this number.
+abbrev pub run_with : ℕ → Option ℕ → ℕ → ℕ
+run_with number None run = 0
+run_with number (Some first) run = if first + run + 1 == number then run + 1 else run
+
+-- A node that has one property more, the last one, at this number.
+abbrev pub with_last_slot : ℕ → Node → Node
+with_last_slot number node = record node {
+  first_property = Some (unwrap_or node.first_property number);
+  last_property = Some number;
+  run = run_with number node.first_property node.run;
+  property_count = node.property_count + 1;
+}
+
+-- A slot that has this value.
+abbrev pub with_value : Bytes → Slot → Slot
+with_value value slot = record slot { value = value }
+
+-- The first slot of a node that has this name, among slots of which the first has this number.
+abbrev pub first_named_slot : ℕ → Bytes → ℕ → List Slot → Option ℕ
+first_named_slot node name number [] = None
+first_named_slot node name number (slot ∷ slots) =
+    if slot.owner == node && bytes_eq slot.name name then Some number else first_named_slot node name (suc number) slots

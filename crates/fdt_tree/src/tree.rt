@@ -1,19 +1,17 @@
-// A tree is a vector of nodes, of which the first is the root.
-ghost use Rattle.std.specs.Prelude.{◌≡◌, ◌<◌, ◌+◌, ◌⊎◌, ◌==◌, [], ◌++◌, ◌∷◌, length, OnOk, OnErr, IfOk, IfErr, IsTrue, option_map, option_and_then, IfSome, slice_get};
+// A tree is an arena: a vector of nodes linked by number, of which the first is the root, and a vector of properties.
+ghost use Rattle.std.specs.Prelude.{◌≡◌, ◌<◌, ◌≤◌, ◌+◌, ◌⊎◌, ◌==◌, [], ◌++◌, ◌∷◌, length, OnOk, OnErr, IfOk, IfErr, IsTrue, option_map, option_and_then, IfSome, slice_get};
 ghost use Rattle.std.specs.List.{slice_split};
-ghost use Rattle.fdt_tree.specs.Tree.{descend, find_place, is_node_name, is_property_name, property_of};
+ghost use Rattle.fdt_tree.specs.Tree.{depth, descend, find_place, is_node_name, is_property_name, property_of};
 ghost use Rattle.fdt_tree.specs.Whole.{IsKept};
 ghost use Rattle.fdt_tree.specs.Document.{empty, place_of, name_of, properties_of, IsNumbering, IsNamed, children_of, if_there, next_place, parent_place, with_child_of, with_properties, with_property};
 ghost use Rattle.fdt_tree.specs.PathEdits.{mknod, set, set_property, with_child_at};
 
 use crate::edit_fault::EditFault;
-use crate::node::{Node, link};
+use crate::node::{Node, Slot, alone, link};
 use crate::node_id::NodeId;
 use crate::pieces::cut;
-use crate::properties::value_of;
-use crate::settings::put_property;
+use crate::slots::{end_at, find_from, follow, put_value, slot_from, slot_named};
 use dl_base::Bytes;
-use sqlite_items::Items;
 use std::alloc::{AllocError, Global};
 use std::marker::Model;
 
@@ -24,6 +22,7 @@ const DEPTH_LIMIT: usize = 32;
 #[derive(Drop)]
 pub struct Tree {
     nodes: Vec<Node>,
+    slots: Vec<Slot>,
 }
 
 impl Model for Tree {
@@ -35,9 +34,9 @@ impl Model for Tree {
 
     ghost coded = { coded_document };
 
-    ghost view = { λ t. document t.nodes.items };
+    ghost view = { λ t. document t.nodes.items t.slots.items };
 
-    ghost invariant = { λ t. IsLinked (document t.nodes.items) t.nodes.items };
+    ghost invariant = { λ t. IsLinked (document t.nodes.items t.slots.items) t.nodes.items t.slots.items };
 }
 
 impl Tree {
@@ -46,16 +45,11 @@ impl Tree {
         ensures { IfOk result (λ tree. tree ≡ empty) }
     {
         let mut nodes = Vec::new(alloc);
-        let root = Node {
-            parent: 0,
-            position: 0,
-            depth: 1,
-            name: Bytes::new(alloc),
-            properties: Items::new(alloc),
-            children: Items::new(alloc),
-        };
-        nodes.push(root)?;
-        Ok(Tree { nodes })
+        nodes.push(alone(0, Bytes::new(alloc)))?;
+        Ok(Tree {
+            nodes,
+            slots: Vec::new(alloc),
+        })
     }
 
     /// The root. Its name is empty.
@@ -100,12 +94,9 @@ impl Tree {
         ensures refused { IfErr result (λ e. (e ≡ EditFault.Memory) ⊎ (with_child_of self.old parent name.now ≡ Err e)) }
         ensures same { OnErr result (self.new ≡ self.old) }
     {
-        let above = &self.nodes[parent.number];
-        let depth = above.depth;
-        if depth == DEPTH_LIMIT {
+        if self.depth(parent) == DEPTH_LIMIT {
             return Err(EditFault::Deep);
         }
-        let position = above.children.len();
         let alloc = *self.nodes.allocator();
         let mut held = Bytes::new(alloc);
         match held.append(name) {
@@ -113,18 +104,27 @@ impl Tree {
             Err(_) => return Err(EditFault::Memory),
         }
         let number = self.nodes.len();
-        let node = Node {
-            parent: parent.number,
-            position,
-            depth: depth + 1,
-            name: held,
-            properties: Items::new(alloc),
-            children: Items::new(alloc),
-        };
-        match link(&mut self.nodes, parent.number, node) {
+        let last = self.nodes[parent.number].last_child;
+        let node = alone(parent.number, held);
+        match link(&mut self.nodes, parent.number, last, node) {
             Ok(()) => Ok(NodeId { number }),
             Err(_) => Err(EditFault::Memory),
         }
+    }
+
+    /// The number of nodes on the way from the root to a node, both counted.
+    fn depth(&self, node: NodeId) -> usize
+        requires { node < length self.now.places }
+        ensures depth { result ≡ depth (place_of self.now node) }
+        ensures shallow { result ≤ 32 }
+    {
+        let mut above = node.number;
+        let mut depth = 1;
+        while above != 0 {
+            above = self.nodes[above].parent;
+            depth += 1;
+        }
+        depth
     }
 
     /// Adds a last property, whatever the names beside it. After want of memory the tree is as it was.
@@ -140,8 +140,17 @@ impl Tree {
         held_name.append(name)?;
         let mut value = Bytes::new(alloc);
         value.append(bytes)?;
-        let holder = &mut self.nodes[node.number];
-        holder.properties.push((held_name, value))
+        let slot = Slot {
+            owner: node.number,
+            name: held_name,
+            value,
+            next: None,
+        };
+        let last = self.nodes[node.number].last_property;
+        follow(&mut self.slots, last, slot)?;
+        let count = self.slots.len();
+        end_at(&mut self.nodes, node.number, count);
+        Ok(())
     }
 
     /// Adds a last child with no property and no child to the node that a path finds: `NoNode` exactly where it finds
@@ -191,13 +200,16 @@ impl Tree {
         ensures places { self.new.places ≡ self.old.places }
         ensures err { OnErr result (self.new ≡ self.old) }
     {
-        let alloc = *self.nodes.allocator();
-        let mut held_name = Bytes::new(alloc);
-        held_name.append(name)?;
-        let mut value = Bytes::new(alloc);
-        value.append(bytes)?;
-        let holder = &mut self.nodes[node.number];
-        put_property(&mut holder.properties, held_name, value)
+        let first = self.nodes[node.number].first_property;
+        match slot_named(self.slots.as_slice(), node.number, first, name) {
+            Some(number) => {
+                let mut value = Bytes::new(*self.nodes.allocator());
+                value.append(bytes)?;
+                put_value(&mut self.slots, number, value);
+                Ok(())
+            }
+            None => self.add_prop(node, name, bytes),
+        }
     }
 
     /// The name of a node.
@@ -213,7 +225,7 @@ impl Tree {
         requires { node < length self.now.places }
         ensures { result ≡ length (properties_of self.now node) }
     {
-        self.nodes[node.number].properties.len()
+        self.nodes[node.number].property_count
     }
 
     /// The node above a node; the root has none.
@@ -239,9 +251,9 @@ impl Tree {
         ensures later { IfSome result (λ child. node < child) }
         ensures place { option_map (λ child. place_of self.now child) result ≡ if_there self.now (place_of self.now node ++ 0 ∷ []) }
     {
-        match self.nodes[node.number].children.get(0) {
+        match self.nodes[node.number].first_child {
             None => None,
-            Some(number) => Some(NodeId { number: *number }),
+            Some(number) => Some(NodeId { number }),
         }
     }
 
@@ -252,16 +264,9 @@ impl Tree {
         ensures later { IfSome result (λ next. node < next) }
         ensures place { option_map (λ next. place_of self.now next) result ≡ option_and_then (λ p. if_there self.now p) (next_place (place_of self.now node)) }
     {
-        let held = &self.nodes[node.number];
-        if node.number == 0 {
-            return None;
-        }
-        let siblings = &self.nodes[held.parent].children;
-        let count = siblings.len();
-        prove!(held.position < count);
-        match siblings.get(held.position + 1) {
+        match self.nodes[node.number].next_sibling {
             None => None,
-            Some(number) => Some(NodeId { number: *number }),
+            Some(number) => Some(NodeId { number }),
         }
     }
 
@@ -271,9 +276,8 @@ impl Tree {
         requires within { index < length (properties_of self.now node) }
         ensures { slice_get (properties_of self.now node) index ≡ Some (result.0.now, result.1.now) }
     {
-        let properties = self.nodes[node.number].properties.as_slice();
-        let (name, value) = &properties[index];
-        (name.as_slice(), value.as_slice())
+        let held = &self.nodes[node.number];
+        slot_from(self.slots.as_slice(), held.first_property, held.run, index)
     }
 
     /// The value of the first property of this name.
@@ -281,7 +285,11 @@ impl Tree {
         requires { node < length self.now.places }
         ensures { option_map (λ value. value.now) result ≡ property_of (properties_of self.now node) name.now }
     {
-        value_of(self.nodes[node.number].properties.as_slice(), name)
+        find_from(
+            self.slots.as_slice(),
+            self.nodes[node.number].first_property,
+            name,
+        )
     }
 
     /// The node that a path finds (Devicetree Specification 0.4, 2.2.3). A path begins with `/`; its components are
@@ -330,10 +338,13 @@ impl Tree {
         if name.is_empty() {
             return None;
         }
-        for child in self.nodes[node.number].children.as_slice() {
-            if self.nodes[*child].name.as_slice() == name {
-                return Some(NodeId { number: *child });
+        self.numbering();
+        let mut next = self.first_child(node);
+        while let Some(child) = next {
+            if self.name(child) == name {
+                return Some(child);
             }
+            next = self.next_sibling(child);
         }
         None
     }

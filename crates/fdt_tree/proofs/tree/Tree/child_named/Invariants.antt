@@ -1,7 +1,13 @@
-use Rattle.fdt_tree.specs.Document.{children_of}
-use Rattle.fdt_tree.proofs.Names.{Misses}
+use Rattle.std.proofs.Common.{◌<◌, ◌-◌, length, IfSome, unwrap_or}
+use Rattle.fdt_tree.proofs.Siblings.{Comes}
 use Rattle.fdt_tree.proofs.tree.Tree.child_named.Given as goal
 
--- No child before this one has the name.
-abbrev pub invariant-loop-child : goal.invariant-loop-child
-invariant-loop-child l = Misses (children_of l.self l.fn.node) l.name l.child-index
+-- No child before the next one has the name.
+abbrev pub invariant-loop-next : goal.invariant-loop-next
+invariant-loop-next l = record {
+  live : IfSome l.next (λ child. child < length l.self.places);
+  comes : Comes l.self l.fn.node l.name l.next;
+}
+
+abbrev pub decreases-loop-next : goal.decreases-loop-next
+decreases-loop-next l = length l.self.places - unwrap_or l.next (length l.self.places)

@@ -1,22 +1,18 @@
-use Rattle.std.proofs.Common.{◌≡◌, ◌<◌, Some, length, slice_get, sym, ap, ◌∙◌, arith}
-use Rattle.fdt_tree.specs.Document.{properties_of}
-use Rattle.fdt_tree.specs.Assembled.{summary}
-use Rattle.fdt_tree.proofs.Links.{or_of, reads, read-there}
+use Rattle.std.proofs.Common.{length, slice_get, sym, ap, ◌∙◌, arith, subst, List}
+use Rattle.fdt_tree.specs.Assembled.{StandBeside}
+use Rattle.fdt_tree.specs.declared.node.Slot.{Slot}
+use Rattle.fdt_tree.proofs.Links.{reads}
+use Rattle.fdt_tree.proofs.Additions.{all_of}
 use Rattle.fdt_tree.proofs.tree.Tree.prop_at.Goals as goal
 
-properties : (c : goal.After-as_slice-properties) → properties_of c.args.self.now c.args.node ≡ c.as_slice-properties.result.now
-properties c =
-    let f = reads _ _ _ _ _ _ c.self.invariant c.self.view_is c.node.view_is c.requires.live c.index.ensures in or_of summary (λ z. z.1.0) _ _ _ f.says ∙ sym c.as_slice-properties.ensures
+pub slot_from-requires-clause-beside : goal.slot_from-requires-clause-beside
+slot_from-requires-clause-beside c =
+    let f = reads _ _ _ _ _ _ _ c.self.invariant c.self.view_is c.node.view_is c.requires.live c.index-held.ensures in (c.args.node, subst (λ (xs : List Slot). StandBeside c.args.node c.index-held.result.now.first_property c.index-held.result.now.run xs) (sym c.as_slice.ensures.value) f.beside)
 
-within : (c : goal.After-as_slice-properties) → c.args.index < length c.as_slice-properties.result.now
-within c = omega (arith, c.requires.within, ap length (properties c))
-
-pub bounds-properties-index : goal.bounds-properties-index
-bounds-properties-index c = within c
-
-pub offset_bounds-properties-index : goal.offset_bounds-properties-index
-offset_bounds-properties-index c = omega (arith, within c, c.as_slice-properties.type_inv)
+pub slot_from-requires-clause-within : goal.slot_from-requires-clause-within
+slot_from-requires-clause-within c =
+    let f = reads _ _ _ _ _ _ _ c.self.invariant c.self.view_is c.node.view_is c.requires.live c.index-held.ensures in omega (arith, c.requires.within, ap length (all_of _ _ _ _ _ f c.as_slice.ensures.value))
 
 pub returns : goal.returns
 returns c =
-    let f = reads _ _ _ _ _ _ c.self.invariant c.self.view_is c.node.view_is c.requires.live c.index.ensures in let held : properties_of c.args.self.now c.args.node ≡ c.as_slice-properties.result.now = or_of summary (λ z. z.1.0) _ _ _ f.says ∙ sym c.as_slice-properties.ensures in ap (λ z. slice_get z c.args.index) held ∙ (read-there c.as_slice-properties.result.now c.args.index c.index-properties-index.result (omega (arith, c.requires.within, ap length held)) c.index-properties-index.is ∙ (ap (λ z. Some (z, c.index-properties-index.result.1)) (sym c.as_slice.ensures) ∙ ap (λ z. Some (c.as_slice.result.now, z)) (sym c.as_slice-2.ensures)))
+    let f = reads _ _ _ _ _ _ _ c.self.invariant c.self.view_is c.node.view_is c.requires.live c.index-held.ensures in ap (λ z. slice_get z c.args.index) (sym (all_of _ _ _ _ _ f c.as_slice.ensures.value)) ∙ c.slot_from.ensures
