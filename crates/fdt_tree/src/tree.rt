@@ -193,7 +193,7 @@ impl Tree {
     }
 
     /// Replaces the bytes of the first property of this name, or adds a last property.
-    fn set_prop(&mut self, node: NodeId, name: &[u8], bytes: &[u8]) -> Result<(), AllocError>
+    pub fn set_prop(&mut self, node: NodeId, name: &[u8], bytes: &[u8]) -> Result<(), AllocError>
         requires live { node < length self.old.places }
         requires property_name { IsTrue (is_property_name name.now) }
         ensures ok { OnOk result (self.new ≡ with_properties self.old (place_of self.old node) (set_property name.now bytes.now)) }
