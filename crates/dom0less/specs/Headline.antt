@@ -1,5 +1,5 @@
 -- What status 0 promises of what was written, and what a refusal names.
-use Rattle.std.specs.Prelude.{◌≡◌, ◌++◌, ℕ, List, length, Option, Ok, Err}
+use Rattle.std.specs.Prelude.{◌≡◌, ◌++◌, ℕ, List, [], length, Option, Ok, Err}
 use Rattle.dl_base.specs.Outside.{File}
 use Rattle.domain_plan.specs.Refusals.{Refusal}
 use Rattle.fdt_listing.specs.Listing.{listing}

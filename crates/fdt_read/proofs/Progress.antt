@@ -8,7 +8,7 @@ use Rattle.std.proofs.lemmas.List.Sums.{sum_by-append}
 use Rattle.std.proofs.lemmas.Bool.{true≢false}
 use Rattle.fdt_tree.specs.Tree.{Bytes, Property, none, Tree, Place, at, count, depth_limit, edit, add_child, change_properties}
 use Rattle.fdt_tree.specs.Document.{children_at}
-use Rattle.fdt_tree.specs.Assembled.{summary}
+use Rattle.fdt_tree.specs.PrivateLinks.{summary}
 use Rattle.fdt_tree.proofs.Edits.{add_child-Extends, change_properties-Extends, Extends, at-edit_same, at-edit_other, at-new}
 use Rattle.fdt_tree.proofs.Links.{children_at-there, length-last, count-with_last}
 use Rattle.fdt_read.specs.Tokens.{Token, begin_node, end_node, property, nop}

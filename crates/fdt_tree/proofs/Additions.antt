@@ -3,7 +3,8 @@ use Rattle.std.proofs.Common.{IsTrue, ◌≡◌, ◌≢◌, ◌⊎◌, inl, inr,
 use Rattle.std.proofs.lemmas.Bool.{cases_eq}
 use Rattle.fdt_tree.specs.Tree.{Bytes, Property, Tree, Place, at, count, change_properties, is_property_name}
 use Rattle.fdt_tree.specs.Document.{Document, place_of, node_at, if_there, next_place, properties_of, with_properties, with_property}
-use Rattle.fdt_tree.specs.Assembled.{summary, face, Added, added, assembled, document, owned, rows, first_owned, last_owned, last_place, from, IsNodeOf, IsLinked, StandBeside, modified, with_next, with_last_slot, chained_after}
+use Rattle.fdt_tree.specs.Assembled.{face, Added, added, assembled, document, owned, rows, first_owned, last_owned, last_place, IsNodeOf, IsLinked, StandBeside}
+use Rattle.fdt_tree.specs.PrivateLinks.{summary, from, modified, with_next, with_last_slot, chained_after}
 use Rattle.fdt_tree.specs.declared.node.Node.{Node}
 use Rattle.fdt_tree.specs.declared.node.Slot.{Slot}
 use Rattle.fdt_tree.proofs.Edits.{change_properties-Extends, at-edit_same, at-edit_other, name-edit}

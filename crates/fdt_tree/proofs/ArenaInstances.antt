@@ -2,7 +2,8 @@
 use Rattle.std.proofs.Common.{◌≡◌, [], ◌∷◌, List, Some, None, refl}
 use Rattle.std.specs.Prelude.{codes}
 use Rattle.fdt_tree.specs.Tree.{none, tree}
-use Rattle.fdt_tree.specs.Assembled.{fresh, document, from, linked, run_with, IsChained}
+use Rattle.fdt_tree.specs.Assembled.{document, IsChained}
+use Rattle.fdt_tree.specs.PrivateLinks.{fresh, from, linked, run_with}
 use Rattle.fdt_tree.specs.declared.node.Node.{Node}
 use Rattle.fdt_tree.specs.declared.node.Slot.{Slot}
 

@@ -5,7 +5,8 @@ use Rattle.std.specs.Prelude.{drop, bytes_eq}
 use Rattle.std.specs.Option.{option_map_or}
 use Rattle.fdt_tree.specs.Tree.{Property, property_of}
 use Rattle.fdt_tree.proofs.Lists.{read-there, there, length-last, length-modified}
-use Rattle.fdt_tree.specs.Assembled.{added, owned, rows, first_owned, last_owned, IsChained, from, modified, with_next, chained_after}
+use Rattle.fdt_tree.specs.Assembled.{added, owned, rows, first_owned, last_owned, IsChained}
+use Rattle.fdt_tree.specs.PrivateLinks.{from, modified, with_next, chained_after}
 use Rattle.fdt_tree.specs.declared.node.Node.{Node}
 use Rattle.fdt_tree.specs.declared.node.Slot.{Slot}
 use Rattle.fdt_tree.proofs.Changes.{altered}

@@ -3,7 +3,8 @@ use Rattle.std.proofs.Common.{◌≡◌, ◌≢◌, ◌⊎◌, inl, inr, ℕ, ze
 use Rattle.std.proofs.lemmas.Bool.{cases_eq}
 use Rattle.fdt_tree.specs.Tree.{Property, Trees, none, tree, Tree, Place, at_in, at, count, edit_in, edit, add_child, change_properties}
 use Rattle.fdt_tree.specs.Document.{Document, place_of, children_at, with_properties}
-use Rattle.fdt_tree.specs.Assembled.{Added, grown, rooted, assembled, modified}
+use Rattle.fdt_tree.specs.Assembled.{Added, grown, rooted, assembled}
+use Rattle.fdt_tree.specs.PrivateLinks.{modified}
 use Rattle.fdt_tree.proofs.Edits.{add_child-Extends, at-new, count-edit_in, edits, edit-new}
 use Rattle.fdt_tree.proofs.Standing.{still_there}
 use Rattle.fdt_tree.proofs.Links.{children_at-there, place-old, place-new}

@@ -3,7 +3,8 @@ use Rattle.std.proofs.Common.{◌≡◌, ℕ, zero, suc, ◌+◌, ◌-◌, ◌<�
 use Rattle.std.specs.Prelude.{drop}
 use Rattle.fdt_tree.specs.Tree.{Trees, none, tree, Tree, Place, at_in, at}
 use Rattle.fdt_tree.specs.Document.{Document, place_of, node_at, if_there, next_place}
-use Rattle.fdt_tree.specs.Assembled.{face, owned, from, LeadsOn, IsLinked}
+use Rattle.fdt_tree.specs.Assembled.{face, owned, LeadsOn, IsLinked}
+use Rattle.fdt_tree.specs.PrivateLinks.{from}
 use Rattle.fdt_tree.specs.declared.node.Node.{Node}
 use Rattle.fdt_tree.specs.declared.node.Slot.{Slot}
 use Rattle.fdt_tree.proofs.Edits.{at-below}

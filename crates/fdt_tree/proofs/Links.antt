@@ -7,7 +7,8 @@ use Rattle.std.specs.Prelude.{◌&&◌, ◌==◌}
 use Rattle.std.specs.Option.{option_map_or}
 use Rattle.fdt_tree.specs.Tree.{Bytes, Property, Trees, none, tree, Tree, Place, at_in, at, count, with_last, add_child, depth, depth_limit, is_node_name, is_property_name}
 use Rattle.fdt_tree.specs.Document.{IsNumbering, IsNamed, have_names, if_there, Document, place_of, node_at, name_of, parent_place, next_place, children_at, with_node, with_child, with_child_of}
-use Rattle.fdt_tree.specs.Assembled.{fresh, summary, face, added, grown, assembled, owned, rows, document, last_place, LeadsOn, IsNodeOf, IsLinked, linked, with_first_child, with_next_sibling, with_last_child}
+use Rattle.fdt_tree.specs.Assembled.{face, added, grown, assembled, owned, rows, document, last_place, LeadsOn, IsNodeOf, IsLinked}
+use Rattle.fdt_tree.specs.PrivateLinks.{fresh, summary, linked, with_first_child, with_next_sibling, with_last_child}
 use Rattle.fdt_tree.specs.declared.node.Node.{Node}
 use Rattle.fdt_tree.specs.declared.node.Slot.{Slot}
 use Rattle.fdt_tree.specs.declared.edit_fault.EditFault.TheVariants.{Deep}

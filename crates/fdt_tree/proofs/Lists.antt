@@ -1,7 +1,8 @@
 -- Lists with one item changed, and rows of the arena.
 use Rattle.std.proofs.Common.{◌≡◌, ◌≢◌, ℕ, zero, suc, ◌+◌, ◌<◌, List, [], ◌∷◌, ◌++◌, Option, Some, None, option_map, length, get_or, set, slice_get, cond, refl, sym, ap, ◌∙◌, arith, ne_eqb}
 use Rattle.std.proofs.lemmas.List.Sums.{fold-append}
-use Rattle.fdt_tree.specs.Assembled.{Added, added, grown, assembled, owned, first_owned, last_owned, rows, modified, followed, linked, with_first_child, with_next_sibling, with_last_child}
+use Rattle.fdt_tree.specs.Assembled.{Added, added, grown, assembled, owned, first_owned, last_owned, rows}
+use Rattle.fdt_tree.specs.PrivateLinks.{modified, followed, linked, with_first_child, with_next_sibling, with_last_child}
 use Rattle.fdt_tree.specs.declared.node.Node.{Node}
 use Rattle.fdt_tree.specs.declared.node.Slot.{Slot}
 

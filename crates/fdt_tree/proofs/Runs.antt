@@ -4,7 +4,8 @@ use Rattle.std.proofs.lemmas.Bool.{cases_eq}
 use Rattle.std.specs.Prelude.{drop}
 use Rattle.std.specs.Option.{option_map_or}
 use Rattle.fdt_tree.specs.Tree.{Property}
-use Rattle.fdt_tree.specs.Assembled.{StandBeside, owned, from, modified, with_next, chained_after, run_with}
+use Rattle.fdt_tree.specs.Assembled.{StandBeside, owned}
+use Rattle.fdt_tree.specs.PrivateLinks.{from, modified, with_next, chained_after, run_with}
 use Rattle.fdt_tree.specs.declared.node.Slot.{Slot}
 use Rattle.fdt_tree.proofs.Lists.{get-within, get-append_old, get-append_new}
 use Rattle.fdt_tree.proofs.Chains.{drop-get}

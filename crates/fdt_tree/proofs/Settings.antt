@@ -6,7 +6,8 @@ use Rattle.std.proofs.lemmas.Slice.Eq.{bytes_eq-Decides}
 use Rattle.fdt_tree.specs.Tree.{Bytes, Property, Trees, none, tree, Tree, Place, at_in, at, count, edit_in, edit, change_properties, is_property_name}
 use Rattle.fdt_tree.specs.Document.{Document, place_of, node_at, if_there, next_place, with_properties, with_property}
 use Rattle.fdt_tree.specs.PathEdits.{set_property}
-use Rattle.fdt_tree.specs.Assembled.{summary, face, assembled, document, rows, last_place, IsNodeOf, IsLinked, owned, first_owned, last_owned, IsChained, modified, with_value, first_named_slot}
+use Rattle.fdt_tree.specs.Assembled.{face, assembled, document, rows, last_place, IsNodeOf, IsLinked, owned, first_owned, last_owned, IsChained}
+use Rattle.fdt_tree.specs.PrivateLinks.{summary, modified, with_value, first_named_slot}
 use Rattle.fdt_tree.specs.declared.node.Node.{Node}
 use Rattle.fdt_tree.specs.declared.node.Slot.{Slot}
 use Rattle.fdt_tree.proofs.Edits.{change_properties-Extends, at-edit_same, at-edit_other, name-edit}

@@ -1,6 +1,6 @@
 // A node and a property as the arena of a tree holds them.
 ghost use Rattle.std.specs.Prelude.{◌≡◌, ◌<◌, length, OnOk, OnErr, IfSome};
-ghost use Rattle.fdt_tree.specs.Assembled.{fresh, linked};
+ghost use Rattle.fdt_tree.specs.PrivateLinks.{fresh, linked};
 
 use dl_base::Bytes;
 use std::alloc::AllocError;

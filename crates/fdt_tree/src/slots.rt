@@ -1,7 +1,8 @@
 // The properties of a node, by their links.
 ghost use Rattle.std.specs.Prelude.{◌≡◌, ◌<◌, ◌+◌, ◌-◌, Some, ℕ, length, OnOk, OnErr, IfSome, option_map, slice_get};
 ghost use Rattle.fdt_tree.specs.Tree.{property_of};
-ghost use Rattle.fdt_tree.specs.Assembled.{IsChained, StandBeside, chained_after, first_named_slot, first_owned, from, modified, run_with, with_last_slot, with_value};
+ghost use Rattle.fdt_tree.specs.Assembled.{IsChained, StandBeside, first_owned};
+ghost use Rattle.fdt_tree.specs.PrivateLinks.{chained_after, first_named_slot, from, modified, run_with, with_last_slot, with_value};
 ghost use Rattle.fdt_tree.specs.declared.node.Node.{Node};
 
 use crate::node::{Node, Slot};

@@ -192,7 +192,8 @@ impl Tree {
         }
     }
 
-    /// Replaces the bytes of the first property of this name, or adds a last property.
+    /// Replaces the bytes of the first property of this name of a node, or adds a last property. After want of memory the
+    /// tree is as it was.
     pub fn set_prop(&mut self, node: NodeId, name: &[u8], bytes: &[u8]) -> Result<(), AllocError>
         requires live { node < length self.old.places }
         requires property_name { IsTrue (is_property_name name.now) }

@@ -1,5 +1,5 @@
 -- The script of a configuration, as ImageBuilder's uboot-script-gen writes it for a dom0less boot.
-use Rattle.std.specs.Prelude.{◌≡◌, ℕ, ◌+◌, ◌-◌, Bool, not, is_some, List, ◌∷◌, ◌++◌, map, length, drop, Option, Result, Ok, Err, codes, if◌then◌else◌}
+use Rattle.std.specs.Prelude.{◌≡◌, ℕ, ◌+◌, ◌-◌, Bool, not, is_some, List, [], ◌∷◌, ◌++◌, map, length, drop, Option, Result, Ok, Err, codes, if◌then◌else◌}
 use Rattle.ib_config.specs.declared.settings.Settings.{Settings}
 use Rattle.ib_placement.specs.Placement.{dom0_files}
 use Rattle.ib_placement.specs.declared.places.FilePlace.{FilePlace}

@@ -1,5 +1,5 @@
 use Rattle.std.proofs.Common.{◌≡◌, ◌<◌, ◌++◌, ◌∷◌, [], ℕ, List, Option, IfSome, length, get_or, set, sym, ap, ◌∙◌, subst, arith, Vec}
-use Rattle.fdt_tree.specs.Assembled.{followed, modified, with_first_child, with_next_sibling, with_last_child}
+use Rattle.fdt_tree.specs.PrivateLinks.{followed, modified, with_first_child, with_next_sibling, with_last_child}
 use Rattle.fdt_tree.specs.declared.node.Node.{Node}
 use Rattle.fdt_tree.proofs.Lists.{set-modified, length-followed, length-last}
 use Rattle.fdt_tree.proofs.node.link.Goals as goal

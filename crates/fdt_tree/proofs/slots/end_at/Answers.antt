@@ -1,5 +1,5 @@
 use Rattle.std.proofs.Common.{◌≡◌, ◌<◌, ◌+◌, ◌-◌, ℕ, List, Some, Option, length, get_or, unwrap_or, sym, ap, ◌∙◌, set}
-use Rattle.fdt_tree.specs.Assembled.{modified, with_last_slot, run_with}
+use Rattle.fdt_tree.specs.PrivateLinks.{modified, with_last_slot, run_with}
 use Rattle.fdt_tree.specs.declared.node.Node.{Node}
 use Rattle.fdt_tree.proofs.Lists.{set-modified}
 use Rattle.fdt_tree.proofs.slots.end_at.Goals as goal

@@ -1,6 +1,6 @@
 use Rattle.std.proofs.Common.{◌≡◌, ◌<◌, length, IfSome}
 use Rattle.fdt_tree.specs.Tree.{property_of}
-use Rattle.fdt_tree.specs.Assembled.{from}
+use Rattle.fdt_tree.specs.PrivateLinks.{from}
 use Rattle.fdt_tree.proofs.slots.find_from.Given as goal
 
 -- No property before this one has the name.

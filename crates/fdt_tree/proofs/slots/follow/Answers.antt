@@ -1,5 +1,5 @@
 use Rattle.std.proofs.Common.{◌<◌, ℕ, Option, IfSome, length, sym, ap, ◌∙◌, subst, arith}
-use Rattle.fdt_tree.specs.Assembled.{modified, with_next, chained_after}
+use Rattle.fdt_tree.specs.PrivateLinks.{modified, with_next, chained_after}
 use Rattle.fdt_tree.proofs.Lists.{set-modified, length-last}
 use Rattle.fdt_tree.proofs.slots.follow.Goals as goal
 

@@ -1,5 +1,5 @@
 use Rattle.std.proofs.Common.{◌≡◌, ◌<◌, length, IfSome, slice_get}
-use Rattle.fdt_tree.specs.Assembled.{from}
+use Rattle.fdt_tree.specs.PrivateLinks.{from}
 use Rattle.fdt_tree.proofs.slots.slot_after.Given as goal
 
 -- The property that is wanted is so many links on.

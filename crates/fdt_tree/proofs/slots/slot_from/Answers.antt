@@ -1,5 +1,5 @@
 use Rattle.std.proofs.Common.{◌≡◌, ◌+◌, ◌-◌, slice_get, sym, ap, ◌∙◌, arith}
-use Rattle.fdt_tree.specs.Assembled.{from}
+use Rattle.fdt_tree.specs.PrivateLinks.{from}
 use Rattle.fdt_tree.proofs.Runs.{jumped}
 use Rattle.fdt_tree.proofs.slots.slot_from.Goals as goal
 

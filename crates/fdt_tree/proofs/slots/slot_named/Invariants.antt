@@ -1,5 +1,5 @@
 use Rattle.std.proofs.Common.{◌≡◌, length}
-use Rattle.fdt_tree.specs.Assembled.{from, first_named_slot}
+use Rattle.fdt_tree.specs.PrivateLinks.{from, first_named_slot}
 use Rattle.fdt_tree.proofs.Settings.{named_at, LeadsTo}
 use Rattle.fdt_tree.proofs.slots.slot_named.Given as goal
 

@@ -1,5 +1,6 @@
 use Rattle.std.proofs.Common.{◌≡◌, ◌++◌, [], length, sym, ap, ◌∙◌, arith, subst, refl, IsTrue}
-use Rattle.fdt_tree.specs.Assembled.{fresh, document, linked, IsLinked}
+use Rattle.fdt_tree.specs.Assembled.{document, IsLinked}
+use Rattle.fdt_tree.specs.PrivateLinks.{fresh, linked}
 use Rattle.fdt_tree.specs.Tree.{Bytes, is_node_name}
 use Rattle.fdt_tree.specs.Document.{Document, place_of, with_node}
 use Rattle.fdt_tree.proofs.Lists.{length-last}

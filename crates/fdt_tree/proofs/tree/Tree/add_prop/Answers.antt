@@ -2,7 +2,8 @@ use Rattle.std.proofs.Common.{suc, ◌≡◌, ◌++◌, ◌-◌, None, length, I
 use Rattle.fdt_tree.specs.Tree.{Bytes, is_property_name}
 use Rattle.fdt_tree.specs.declared.node.Slot.{Slot}
 use Rattle.fdt_tree.specs.Document.{Document, place_of, with_property}
-use Rattle.fdt_tree.specs.Assembled.{document, IsLinked, modified, with_last_slot}
+use Rattle.fdt_tree.specs.Assembled.{document, IsLinked}
+use Rattle.fdt_tree.specs.PrivateLinks.{modified, with_last_slot}
 use Rattle.fdt_tree.proofs.Links.{reads}
 use Rattle.fdt_tree.proofs.Chains.{last-live, length-after}
 use Rattle.fdt_tree.proofs.Additions.{after_slot, room}

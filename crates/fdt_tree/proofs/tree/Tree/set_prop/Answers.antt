@@ -2,7 +2,8 @@ use Rattle.std.proofs.Common.{◌≡◌, ◌++◌, None, Ok, Err, Result, OnOk, 
 use Rattle.std.specs.declared.alloc.AllocError.{AllocError}
 use Rattle.fdt_tree.specs.Document.{Document, place_of, with_properties}
 use Rattle.fdt_tree.specs.PathEdits.{set_property}
-use Rattle.fdt_tree.specs.Assembled.{document, IsLinked, first_owned, first_named_slot}
+use Rattle.fdt_tree.specs.Assembled.{document, IsLinked, first_owned}
+use Rattle.fdt_tree.specs.PrivateLinks.{first_named_slot}
 use Rattle.fdt_tree.proofs.Lists.{get-within}
 use Rattle.fdt_tree.proofs.Links.{reads}
 use Rattle.fdt_tree.proofs.Settings.{named-there, added-is_set, after_value}
