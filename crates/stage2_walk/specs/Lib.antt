@@ -4,6 +4,7 @@ pub mod MeaningFrames
 pub mod Walks
 pub mod Files
 pub mod Places
+pub mod PlaceMaps
 pub mod TableImages
 pub mod ImageViews
 pub mod Runs

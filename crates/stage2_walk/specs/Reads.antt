@@ -1,5 +1,5 @@
 -- For private contracts and proofs: what a reader of tables keeps while it goes on.
-use Rattle.std.specs.Prelude.{◌≡◌, ◌≢◌, ℕ, ◌+◌, ◌*◌, ◌/◌, ◌^◌, ◌<◌, ◌≤◌, ◌==◌, ◌&&◌, false, Bool, if◌then◌else◌, List, [], ◌∷◌, Option, Some, None, IsSome, Ok, Err}
+use Rattle.std.specs.Prelude.{◌≡◌, ◌≢◌, ℕ, ◌+◌, ◌/◌, ◌^◌, ◌<◌, ◌≤◌, ◌==◌, ◌&&◌, false, Bool, if◌then◌else◌, List, [], ◌∷◌, Some, None, IsSome, Ok, Err}
 use Rattle.dl_base.specs.Consecutive.{is_in}
 use Rattle.stage2_walk.specs.Pages.{Page, page_of}
 use Rattle.stage2_walk.specs.Walks.{walk}

@@ -10,6 +10,9 @@ pub const NUMBER_BYTES: usize = 8;
 /// How many words a page has.
 pub const PAGE_WORDS: usize = 512;
 
+/// How many bytes stand before the pages of a file.
+pub const HEADER_BYTES: usize = 24;
+
 /// How many bytes a page has in a file: its frame, and then its words.
 pub const PAGE_BYTES: usize = NUMBER_BYTES + NUMBER_BYTES * PAGE_WORDS;
 

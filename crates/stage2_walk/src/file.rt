@@ -4,11 +4,9 @@ ghost use Rattle.byteorder.specs.Endian.{little_bytes};
 ghost use Rattle.stage2_walk.specs.Pages.{pages_at};
 ghost use Rattle.stage2_walk.specs.Files.{file_of, magic};
 
+use crate::bytes::HEADER_BYTES;
 use byteorder::{ByteOrder, LittleEndian};
 use std::alloc::{AllocError, Global};
-
-/// How many bytes stand before the pages.
-const HEADER_BYTES: usize = 24;
 
 /// Adds a number at the end, as eight little-endian bytes.
 fn push_number(bytes: &mut Vec<u8>, number: u64) -> Result<(), AllocError>

@@ -1,4 +1,7 @@
 // Why a file is refused.
+ghost use Rattle.std.specs.Prelude.{◌≡◌};
+
+use std::alloc::{AllocError, AllocFailed};
 
 /// Why a file is no image. Pages are counted from 0, in the order of the file.
 #[derive(Clone, Copy, PartialEq, Eq, Debug)]
@@ -15,4 +18,24 @@ pub enum ImageFault {
     Root,
     /// No memory was left.
     Memory,
+}
+
+impl From<AllocError> for ImageFault {
+    ghost use Rattle.stage2_walk.specs.declared.image_fault.ImageFault.{ImageFault};
+
+    ghost from_gives = { λ _ fault. fault ≡ ImageFault.Memory };
+
+    fn from(_error: AllocError) -> ImageFault {
+        ImageFault::Memory
+    }
+}
+
+impl<T: Drop> From<AllocFailed<T>> for ImageFault {
+    ghost use Rattle.stage2_walk.specs.declared.image_fault.ImageFault.{ImageFault};
+
+    ghost from_gives = { λ _ fault. fault ≡ ImageFault.Memory };
+
+    fn from(_error: AllocFailed<T>) -> ImageFault {
+        ImageFault::Memory
+    }
 }

@@ -10,6 +10,7 @@ mod file;
 mod image;
 mod image_fault;
 mod levels;
+mod page_index;
 mod places;
 mod reached;
 mod read;
