@@ -1,17 +1,20 @@
 // The interrupts that devices have.
 ghost use Rattle.passthrough_dtb.specs.declared.interrupts.Interrupt.{Interrupt as Interrupts};
-ghost use Rattle.std.specs.Prelude.{◌≡◌, ◌≤◌, ◌++◌, ◌∷◌, [], List, length, map, flat_map, option_map, OnOk, IfOk};
+ghost use Rattle.std.specs.Prelude.{◌≡◌, ◌≤◌, ◌++◌, ◌∷◌, [], ℕ, List, length, map, flat_map, option_map, OnOk, IfOk};
 ghost use Rattle.std.specs.Option.{option_map_or};
+ghost use Rattle.dl_base.specs.declared.item.Part.TheVariants as parts;
+ghost use Rattle.fdt_tree.specs.Tree.{Bytes};
 ghost use Rattle.fdt_nodes.specs.Entries.{split_entries};
 ghost use Rattle.passthrough_dtb.specs.Interrupts.{interrupt_in, interrupts_in, is_no_spi, interrupt_reason, interrupts_from, irq_items};
 ghost use Rattle.passthrough_dtb.specs.Tables.{Tells};
+ghost use Rattle.passthrough_dtb.specs.Whole.{item_in};
 ghost use Rattle.passthrough_dtb.specs.Held.{device_of, IsDevice, AreDevices};
 
 use crate::devices::Device;
 use crate::hosts::prop_found;
 use crate::items::item_in;
-use dl_base::{Described, List, Part, What, Why, described};
-use fdt_nodes::path;
+use dl_base::{Described, Item, List, Part, What, Why, described};
+use fdt_nodes::{path, with_index};
 use fdt_tree::{Tree, u32_of};
 use std::alloc::{AllocError, Global};
 
@@ -110,17 +113,16 @@ fn interrupt_reason(table: &[bool], interrupt: Interrupt) -> Option<Why>
     None
 }
 
-/// Adds the items of the interrupts of one device.
+/// Adds the items of the interrupts of one device. All share the path of the first.
 fn add_interrupts_of(
     alloc: Global,
-    guest: u32,
-    path: &[u8],
+    first: &Item,
     table: &[bool],
     value: &[u8],
     items: &mut List<Described>,
 ) -> Result<(), AllocError>
     requires { length table.now ≡ 988 }
-    ensures { (held : List Interrupts) → Tells table.now [] held → OnOk result (items.new ≡ items.old ++ interrupts_from guest path.now held 0 (interrupts_in value.now)) }
+    ensures { (guest : ℕ) (path : Bytes) (held : List Interrupts) → first.now ≡ item_in parts.Irq guest path 0 → Tells table.now [] held → OnOk result (items.new ≡ items.old ++ interrupts_from guest path held 0 (interrupts_in value.now)) }
 {
     if value.len() % INTERRUPT_BYTES != 0 {
         return Ok(());
@@ -131,7 +133,7 @@ fn add_interrupts_of(
         let (entry, more) = rest.split_at(INTERRUPT_BYTES);
         let interrupt = interrupt_in(entry);
         let own = interrupt_reason(table, interrupt);
-        let item = item_in(alloc, Part::Irq, guest, path, number)?;
+        let item = with_index(alloc, first, number)?;
         items.push(described(
             item,
             own,
@@ -162,7 +164,8 @@ fn add_device(
     };
     let table = table_of(alloc, prop_found(host, &device.on_host, b"interrupts"))?;
     let path = path(alloc, partial, device.node)?;
-    add_interrupts_of(alloc, guest, path.as_slice(), &table, value, items)
+    let first = item_in(alloc, Part::Irq, guest, path.as_slice(), 0)?;
+    add_interrupts_of(alloc, &first, &table, value, items)
 }
 
 /// Adds the items of the interrupts of devices.
