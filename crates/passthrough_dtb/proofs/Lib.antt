@@ -4,4 +4,3 @@ pub mod Turns
 pub mod Lists
 pub mod Noted
 pub mod Soundness
-pub mod SeenLemmas
