@@ -2,12 +2,15 @@
 ghost use Rattle.std.specs.Prelude.{◌≡◌, ◌<◌, ◌≤◌, ◌++◌, ◌-◌, ◌^◌, IfOk, IfSome, OnOk, length, min};
 ghost use Rattle.fdt_tree.specs.Tree.{property_of};
 ghost use Rattle.fdt_tree.specs.Document.{properties_of};
+ghost use Rattle.dl_base.specs.declared.item.Part.TheVariants as parts;
 ghost use Rattle.fdt_nodes.specs.Held.{node_of};
+ghost use Rattle.fdt_nodes.specs.NodeItems.{item_of};
+ghost use Rattle.fdt_nodes.specs.Nodes.{Node};
 ghost use Rattle.domain_bindings.specs.Statics.{bytes_in, list_item, list_reason, range_items, regions_of, static_cells, static_item, static_items, static_reason, statics_of};
 
 use crate::reasons::{is_not_pages, is_too_high};
-use dl_base::{BaseSize, Described, List, Part, What, Why, described};
-use fdt_nodes::{EntriesFault, cell_count, has, item_of, regions, u64_at};
+use dl_base::{BaseSize, Described, Item, List, Part, What, Why, described};
+use fdt_nodes::{EntriesFault, cell_count, has, item_of, regions, u64_at, with_index};
 use fdt_tree::{NodeId, Tree};
 use std::alloc::{AllocError, Global};
 
@@ -128,22 +131,20 @@ fn static_reason(range: BaseSize) -> Option<Why>
     None
 }
 
-/// A static range of a guest.
+/// A static range of a guest, by the item of the guest's first.
 fn static_item(
     alloc: Global,
-    tree: &Tree,
-    node: NodeId,
+    first: &Item,
     number: u64,
     range: BaseSize,
 ) -> Result<Described, AllocError>
-    requires { node < length tree.now.places }
-    ensures { IfOk result (λ item. item ≡ static_item (node_of tree.now node) number range) }
+    ensures { (node : Node) → first.now ≡ item_of parts.Static node 0 → IfOk result (λ item. item ≡ static_item node number range) }
 {
-    let item = item_of(alloc, tree, Part::Static, node, number)?;
+    let item = with_index(alloc, first, number)?;
     Ok(described(item, static_reason(range), What::Static { at: range }))
 }
 
-/// Adds static ranges of a guest. After want of memory what was added is no matter.
+/// Adds static ranges of a guest, which share the path of the first. After want of memory what was added is no matter.
 fn append_ranges(
     alloc: Global,
     tree: &Tree,
@@ -154,8 +155,9 @@ fn append_ranges(
     requires { node < length tree.now.places }
     ensures { OnOk result (items.new ≡ items.old ++ range_items (node_of tree.now node) 0 ranges.now) }
 {
+    let first = item_of(alloc, tree, Part::Static, node, 0)?;
     for index in 0..ranges.len() {
-        let item = static_item(alloc, tree, node, index as u64, ranges[index])?;
+        let item = static_item(alloc, &first, index as u64, ranges[index])?;
         items.push(item)?;
     }
     Ok(())

@@ -7,7 +7,7 @@ use fdt_tree::{u32_of, u64_of};
 use std::alloc::{AllocError, Global};
 
 /// A range of host addresses that a guest sees at addresses of its own.
-#[derive(Clone, Copy, Debug, PartialEq, Eq, Hash)]
+#[derive(Clone, Copy, Debug, PartialEq, Eq, PartialOrd, Ord, Hash)]
 pub struct Window {
     /// The first host address.
     pub host: u64,

@@ -16,7 +16,7 @@ pub use entries::{
     shared_windows,
 };
 pub use path_index::PathIndex;
-pub use paths::{item_of, path};
+pub use paths::{item_of, path, with_index};
 pub use properties::{
     cell_count, has, has_other_length, has_string, is_compatible, is_memory, is_value, own_cells,
     string_at, u32_at, u64_at,

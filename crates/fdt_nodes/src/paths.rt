@@ -54,3 +54,15 @@ pub fn item_of(
     let path = path(alloc, tree, node)?;
     Ok(Item { part, path, index })
 }
+
+/// The item of the same part and node that has this number among them: a copy of the first. Of a shared path, as
+/// `item_of` makes it, it takes no memory.
+pub fn with_index(alloc: Global, first: &Item, index: u64) -> Result<Item, AllocError>
+    ensures { IfOk result (λ item. item ≡ record first.now { index = index }) }
+{
+    Ok(Item {
+        part: first.part,
+        path: first.path.copy(alloc)?,
+        index,
+    })
+}

@@ -4,3 +4,4 @@ pub mod Turns
 pub mod Lists
 pub mod Noted
 pub mod Soundness
+pub mod KnownNodes

@@ -1,15 +1,15 @@
 // The first reason against a device.
-ghost use Rattle.std.specs.Prelude.{◌≡◌, ◌≤◌, ◌<◌, length, not, option_map};
-ghost use Rattle.std.specs.Option.{ForSome};
+ghost use Rattle.std.specs.Prelude.{◌≡◌, ◌≤◌, ◌<◌, Option, length, not, option_map};
+ghost use Rattle.fdt_tree.specs.Tree.{Tree as Trees};
+ghost use Rattle.fdt_nodes.specs.Nodes.{Node};
+ghost use Rattle.passthrough_dtb.specs.Facts.{AreFacts};
 ghost use Rattle.fdt_tree.specs.Document.{properties_of};
 ghost use Rattle.fdt_nodes.specs.Held.{node_of};
 ghost use Rattle.fdt_nodes.specs.Values.{passes};
 ghost use Rattle.fdt_nodes.specs.Entries.{is_whole};
 ghost use Rattle.passthrough_dtb.specs.Devices.{is_forced, lacks_path, is_path, has_bad_path, has_bad_cells, lacks_host, lacks_iommu, is_extended, is_no_list, has_bad_reg, has_bad_interrupts, has_bad_length, is_off_gic, reason_at};
-ghost use Rattle.fdt_nodes.specs.Controllers.{gic_phandle};
 
-use crate::gic::is_on_gic;
-use crate::hosts::{has_found, prop_found};
+use crate::facts::Facts;
 use dl_base::Why;
 use fdt_nodes::{has, own_cells, string_at};
 use fdt_tree::{NodeId, Tree};
@@ -55,27 +55,25 @@ fn has_bad_cells(tree: &Tree, device: NodeId) -> bool
     has(tree, device, b"xen,reg") && own_cells(tree, device).is_err()
 }
 
-fn lacks_host(tree: &Tree, device: NodeId, host: &Tree, found: &Option<NodeId>) -> bool
+fn lacks_host(tree: &Tree, device: NodeId, facts: Facts) -> bool
     requires device { device < length tree.now.places }
-    ensures { result ≡ lacks_host (properties_of tree.now device) (option_map (node_of host.now) found.now) }
+    ensures { (host : Trees) (found : Option Node) → AreFacts host found facts → result ≡ lacks_host (properties_of tree.now device) found }
 {
-    has(tree, device, b"xen,path") && found.is_none()
+    has(tree, device, b"xen,path") && !facts.is_there
 }
 
-fn lacks_iommu(tree: &Tree, device: NodeId, host: &Tree, found: &Option<NodeId>) -> bool
+fn lacks_iommu(tree: &Tree, device: NodeId, facts: Facts) -> bool
     requires device { device < length tree.now.places }
-    requires found { ForSome found.now (λ node. node < length host.now.places) }
-    ensures { result ≡ lacks_iommu (properties_of tree.now device) (option_map (node_of host.now) found.now) }
+    ensures { (host : Trees) (found : Option Node) → AreFacts host found facts → result ≡ lacks_iommu (properties_of tree.now device) found }
 {
-    found.is_some() && !has_found(host, found, b"iommus") && !is_forced(tree, device)
+    facts.is_there && !facts.has_iommus && !is_forced(tree, device)
 }
 
-fn is_extended(tree: &Tree, device: NodeId, host: &Tree, found: &Option<NodeId>) -> bool
+fn is_extended(tree: &Tree, device: NodeId, facts: Facts) -> bool
     requires device { device < length tree.now.places }
-    requires found { ForSome found.now (λ node. node < length host.now.places) }
-    ensures { result ≡ is_extended (properties_of tree.now device) (option_map (node_of host.now) found.now) }
+    ensures { (host : Trees) (found : Option Node) → AreFacts host found facts → result ≡ is_extended (properties_of tree.now device) found }
 {
-    has(tree, device, b"interrupts-extended") || has_found(host, found, b"interrupts-extended")
+    has(tree, device, b"interrupts-extended") || facts.is_extended
 }
 
 /// Whether a value of `xen,reg` is empty or no whole entries.
@@ -102,7 +100,7 @@ fn has_bad_reg(tree: &Tree, device: NodeId) -> bool
 }
 
 /// Whether `interrupts` is there and no whole threes of cells.
-fn has_bad_threes(value: Option<&[u8]>) -> bool
+pub(crate) fn has_bad_threes(value: Option<&[u8]>) -> bool
     ensures { result ≡ passes (λ v. not (is_whole 3 v)) (option_map (λ v. v.now) value.entry) }
 {
     match value {
@@ -111,50 +109,26 @@ fn has_bad_threes(value: Option<&[u8]>) -> bool
     }
 }
 
-fn has_bad_length(tree: &Tree, device: NodeId, host: &Tree, found: &Option<NodeId>) -> bool
+fn has_bad_length(tree: &Tree, device: NodeId, facts: Facts) -> bool
     requires device { device < length tree.now.places }
-    requires found { ForSome found.now (λ node. node < length host.now.places) }
-    ensures { result ≡ has_bad_length (node_of tree.now device) (option_map (node_of host.now) found.now) }
+    ensures { (host : Trees) (found : Option Node) → AreFacts host found facts → result ≡ has_bad_length (node_of tree.now device) found }
 {
     has_bad_reg(tree, device)
         || has_bad_threes(tree.prop(device, b"interrupts"))
-        || has_bad_threes(prop_found(host, found, b"interrupts"))
+        || facts.has_bad_interrupts
 }
 
-fn is_off_gic(
-    tree: &Tree,
-    device: NodeId,
-    host: &Tree,
-    gic: Option<u32>,
-    found: &Option<NodeId>,
-) -> bool
+fn is_off_gic(tree: &Tree, device: NodeId, facts: Facts) -> bool
     requires device { device < length tree.now.places }
-    requires found { ForSome found.now (λ node. node < length host.now.places) }
-    requires gic { gic ≡ gic_phandle host.now.tree }
-    ensures { result ≡ is_off_gic host.now.tree (properties_of tree.now device) (option_map (node_of host.now) found.now) }
+    ensures { (host : Trees) (found : Option Node) → AreFacts host found facts → result ≡ is_off_gic host (properties_of tree.now device) found }
 {
-    if !has(tree, device, b"interrupts") {
-        return false;
-    }
-    match found {
-        None => true,
-        Some(node) => !is_on_gic(host, gic, *node),
-    }
+    has(tree, device, b"interrupts") && !facts.is_on_gic
 }
 
-/// The first reason against a device, where `gic` is the phandle of the host's GIC, and `found` the host's node that the
-/// device stands for.
-pub(crate) fn reason_at(
-    tree: &Tree,
-    device: NodeId,
-    host: &Tree,
-    gic: Option<u32>,
-    found: &Option<NodeId>,
-) -> Option<Why>
+/// The first reason against a device, by the facts of the host's node that it stands for.
+pub(crate) fn reason_at(tree: &Tree, device: NodeId, facts: Facts) -> Option<Why>
     requires device { device < length tree.now.places }
-    requires found { ForSome found.now (λ node. node < length host.now.places) }
-    requires gic { gic ≡ gic_phandle host.now.tree }
-    ensures { result ≡ reason_at host.now.tree (node_of tree.now device) (option_map (node_of host.now) found.now) }
+    ensures { (host : Trees) (found : Option Node) → AreFacts host found facts → result ≡ reason_at host (node_of tree.now device) found }
 {
     if lacks_path(tree, device) {
         return Some(Why::Missing);
@@ -162,19 +136,19 @@ pub(crate) fn reason_at(
     if has_bad_path(tree, device) || has_bad_cells(tree, device) {
         return Some(Why::BadValue);
     }
-    if lacks_host(tree, device, host, found) {
+    if lacks_host(tree, device, facts) {
         return Some(Why::NoHostNode);
     }
-    if lacks_iommu(tree, device, host, found) {
+    if lacks_iommu(tree, device, facts) {
         return Some(Why::NoIommu);
     }
-    if is_extended(tree, device, host, found) {
+    if is_extended(tree, device, facts) {
         return Some(Why::ExtendedInterrupts);
     }
-    if has_bad_length(tree, device, host, found) {
+    if has_bad_length(tree, device, facts) {
         return Some(Why::BadLength);
     }
-    if is_off_gic(tree, device, host, gic, found) {
+    if is_off_gic(tree, device, facts) {
         return Some(Why::NotGic);
     }
     None

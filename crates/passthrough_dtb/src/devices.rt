@@ -3,16 +3,19 @@ ghost use Rattle.std.specs.Prelude.{◌≡◌, ◌<◌, ◌++◌, ◌∷◌, [],
 ghost use Rattle.fdt_nodes.specs.Held.{node_of, Are};
 ghost use Rattle.fdt_nodes.specs.Controllers.{gic_phandle};
 ghost use Rattle.passthrough_dtb.specs.Devices.{is_device, device_item};
+ghost use Rattle.passthrough_dtb.specs.Facts.{AreKnown};
 ghost use Rattle.passthrough_dtb.specs.Whole.{passed_nodes};
 ghost use Rattle.passthrough_dtb.specs.Held.{device_of, IsDevice, AreDevices};
 
 use crate::device::reason_at;
+use crate::facts::{Known, facts_once};
 use crate::hosts::host_node;
 use crate::items::item_in;
 use dl_base::{Described, List, Part, What, described};
 use fdt_nodes::{PathIndex, descendants, has, path};
 use fdt_tree::{NodeId, Tree};
 use std::alloc::{AllocError, Global};
+use std::collections::BTreeMap;
 
 /// A device of a partial tree, and the host's node that it stands for, where there is one.
 #[derive(Clone, Copy, Drop)]
@@ -78,7 +81,7 @@ pub(crate) fn devices(
     Ok(found)
 }
 
-/// The item of a device.
+/// The item of a device. The facts that are read of its host's node are known from then on.
 fn device_item(
     alloc: Global,
     partial: &Tree,
@@ -86,12 +89,16 @@ fn device_item(
     gic: Option<u32>,
     guest: u32,
     device: &Device,
+    known: &mut Known,
 ) -> Result<Described, AllocError>
     requires device { IsDevice partial.now host.now device.now }
     requires gic { gic ≡ gic_phandle host.now.tree }
-    ensures { IfOk result (λ item. item ≡ device_item host.now.tree guest (device_of partial.now device.now)) }
+    requires known { AreKnown host.now known.old }
+    ensures item { IfOk result (λ item. item ≡ device_item host.now.tree guest (device_of partial.now device.now)) }
+    ensures known { OnOk result (AreKnown host.now known.new) }
 {
-    let own = reason_at(partial, device.node, host, gic, &device.on_host);
+    let facts = facts_once(host, gic, &device.on_host, known)?;
+    let own = reason_at(partial, device.node, facts);
     let path = path(alloc, partial, device.node)?;
     let item = item_in(alloc, Part::Device, guest, path.as_slice(), 0)?;
     Ok(described(item, own, What::Device))
@@ -111,8 +118,10 @@ pub(crate) fn add_devices(
     requires gic { gic ≡ gic_phandle host.now.tree }
     ensures { OnOk result (items.new ≡ items.old ++ map (device_item host.now.tree guest) (map (device_of partial.now) devices.now)) }
 {
+    let mut known = BTreeMap::new(alloc);
     for device in devices {
-        items.push(device_item(alloc, partial, host, gic, guest, device)?)?;
+        let item = device_item(alloc, partial, host, gic, guest, device, &mut known)?;
+        items.push(item)?;
     }
     Ok(())
 }

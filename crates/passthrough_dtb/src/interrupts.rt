@@ -1,25 +1,33 @@
 // The interrupts that devices have.
 ghost use Rattle.passthrough_dtb.specs.declared.interrupts.Interrupt.{Interrupt as Interrupts};
-ghost use Rattle.std.specs.Prelude.{◌≡◌, ◌≤◌, ◌++◌, ◌∷◌, [], List, length, map, flat_map, option_map, OnOk, IfOk};
-ghost use Rattle.std.specs.Option.{option_map_or};
+ghost use Rattle.std.specs.Prelude.{◌≡◌, ◌<◌, ◌≤◌, ◌++◌, ◌∷◌, [], ℕ, List, length, map, flat_map, option_map, OnOk, IfOk};
+ghost use Rattle.std.specs.Option.{option_map_or, IsSome};
+ghost use Rattle.std.specs.BTreeMap.{get};
+ghost use Rattle.std.specs.Ordering.{nat_cmp};
+ghost use Rattle.dl_base.specs.declared.item.Part.TheVariants as parts;
+ghost use Rattle.fdt_tree.specs.Tree.{Bytes};
 ghost use Rattle.fdt_nodes.specs.Entries.{split_entries};
 ghost use Rattle.passthrough_dtb.specs.Interrupts.{interrupt_in, interrupts_in, is_no_spi, interrupt_reason, interrupts_from, irq_items};
-ghost use Rattle.passthrough_dtb.specs.Tables.{Tells};
+ghost use Rattle.passthrough_dtb.specs.Tables.{Tells, AreTables};
+ghost use Rattle.passthrough_dtb.specs.Whole.{item_in};
 ghost use Rattle.passthrough_dtb.specs.Held.{device_of, IsDevice, AreDevices};
 
 use crate::devices::Device;
-use crate::hosts::prop_found;
 use crate::items::item_in;
-use dl_base::{Described, List, Part, What, Why, described};
-use fdt_nodes::path;
-use fdt_tree::{Tree, u32_of};
+use dl_base::{Described, Item, List, Part, What, Why, described};
+use fdt_nodes::{path, with_index};
+use fdt_tree::{NodeId, Tree, u32_of};
 use std::alloc::{AllocError, Global};
+use std::collections::BTreeMap;
 
 // How many numbers a shared peripheral interrupt may have.
 const SPI_COUNT: usize = 988;
 
 // How many bytes an interrupt takes: kind, number and flags.
 const INTERRUPT_BYTES: usize = 12;
+
+// Of nodes of the host the interrupts, by number.
+type Tables = BTreeMap<NodeId, Vec<bool>>;
 
 /// An interrupt of a GIC: its kind, 0 for a shared peripheral interrupt, and its number among those of its kind.
 #[derive(Clone, Copy)]
@@ -110,17 +118,16 @@ fn interrupt_reason(table: &[bool], interrupt: Interrupt) -> Option<Why>
     None
 }
 
-/// Adds the items of the interrupts of one device.
+/// Adds the items of the interrupts of one device. All share the path of the first.
 fn add_interrupts_of(
     alloc: Global,
-    guest: u32,
-    path: &[u8],
+    first: &Item,
     table: &[bool],
     value: &[u8],
     items: &mut List<Described>,
 ) -> Result<(), AllocError>
     requires { length table.now ≡ 988 }
-    ensures { (held : List Interrupts) → Tells table.now [] held → OnOk result (items.new ≡ items.old ++ interrupts_from guest path.now held 0 (interrupts_in value.now)) }
+    ensures { (guest : ℕ) (path : Bytes) (held : List Interrupts) → first.now ≡ item_in parts.Irq guest path 0 → Tells table.now [] held → OnOk result (items.new ≡ items.old ++ interrupts_from guest path held 0 (interrupts_in value.now)) }
 {
     if value.len() % INTERRUPT_BYTES != 0 {
         return Ok(());
@@ -131,7 +138,7 @@ fn add_interrupts_of(
         let (entry, more) = rest.split_at(INTERRUPT_BYTES);
         let interrupt = interrupt_in(entry);
         let own = interrupt_reason(table, interrupt);
-        let item = item_in(alloc, Part::Irq, guest, path, number)?;
+        let item = with_index(alloc, first, number)?;
         items.push(described(
             item,
             own,
@@ -145,24 +152,54 @@ fn add_interrupts_of(
     Ok(())
 }
 
-/// Adds the items of the interrupts of one device.
+/// Reads the interrupts of a host's node, unless they are read already: many devices may name one node.
+fn read_once(
+    alloc: Global,
+    host: &Tree,
+    node: NodeId,
+    tables: &mut Tables,
+) -> Result<(), AllocError>
+    requires live { node < length host.now.places }
+    requires tables { AreTables host.now tables.old }
+    ensures tables { OnOk result (AreTables host.now tables.new) }
+    ensures there { OnOk result (IsSome (get nat_cmp tables.new node)) }
+{
+    if !tables.contains_key(&node) {
+        let table = table_of(alloc, host.prop(node, b"interrupts"))?;
+        tables.insert(node, table)?;
+    }
+    Ok(())
+}
+
+/// Adds the items of the interrupts of one device, where the tables have those of the host's nodes that were read.
 fn add_device(
     alloc: Global,
     partial: &Tree,
     host: &Tree,
     guest: u32,
     device: &Device,
+    tables: &mut Tables,
     items: &mut List<Described>,
 ) -> Result<(), AllocError>
-    requires { IsDevice partial.now host.now device.now }
-    ensures { OnOk result (items.new ≡ items.old ++ irq_items host.now.tree guest (device_of partial.now device.now)) }
+    requires device { IsDevice partial.now host.now device.now }
+    requires tables { AreTables host.now tables.old }
+    ensures items { OnOk result (items.new ≡ items.old ++ irq_items host.now.tree guest (device_of partial.now device.now)) }
+    ensures tables { OnOk result (AreTables host.now tables.new) }
 {
     let Some(value) = partial.prop(device.node, b"interrupts") else {
         return Ok(());
     };
-    let table = table_of(alloc, prop_found(host, &device.on_host, b"interrupts"))?;
     let path = path(alloc, partial, device.node)?;
-    add_interrupts_of(alloc, guest, path.as_slice(), &table, value, items)
+    let first = item_in(alloc, Part::Irq, guest, path.as_slice(), 0)?;
+    let Some(node) = device.on_host else {
+        let table = table_of(alloc, None)?;
+        return add_interrupts_of(alloc, &first, &table, value, items);
+    };
+    read_once(alloc, host, node, tables)?;
+    match tables.get(&node) {
+        None => unreachable!(),
+        Some(table) => add_interrupts_of(alloc, &first, table, value, items),
+    }
 }
 
 /// Adds the items of the interrupts of devices.
@@ -177,8 +214,9 @@ pub(crate) fn add_interrupts(
     requires { AreDevices partial.now host.now devices.now }
     ensures { OnOk result (items.new ≡ items.old ++ flat_map (irq_items host.now.tree guest) (map (device_of partial.now) devices.now)) }
 {
+    let mut tables = BTreeMap::new(alloc);
     for device in devices {
-        add_device(alloc, partial, host, guest, device, items)?;
+        add_device(alloc, partial, host, guest, device, &mut tables, items)?;
     }
     Ok(())
 }

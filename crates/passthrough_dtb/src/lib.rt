@@ -3,6 +3,7 @@
 
 mod device;
 mod devices;
+mod facts;
 mod gic;
 mod hosts;
 mod interrupts;

@@ -1,8 +1,11 @@
 // The ranges of host addresses that devices have.
-ghost use Rattle.std.specs.Prelude.{◌≡◌, ◌≤◌, ◌<◌, ◌++◌, [], List, length, map, flat_map, OnOk, IfOk};
+ghost use Rattle.std.specs.Prelude.{◌≡◌, ◌≤◌, ◌<◌, ◌++◌, [], ℕ, List, length, map, flat_map, OnOk, IfOk};
+ghost use Rattle.dl_base.specs.declared.item.Part.TheVariants as parts;
+ghost use Rattle.fdt_tree.specs.Tree.{Bytes};
 ghost use Rattle.fdt_nodes.specs.declared.entries.Window.{Window as Range};
 ghost use Rattle.fdt_nodes.specs.Held.{node_of};
 ghost use Rattle.passthrough_dtb.specs.Ranges.{is_among, and_range, range_reason, new_range_reason, range_item, ranges_after, ranges_before, ranges_in, whole_ranges, numbered, entries_of};
+ghost use Rattle.passthrough_dtb.specs.Whole.{item_in};
 ghost use Rattle.passthrough_dtb.specs.Held.{device_of, AreDevices};
 
 use crate::devices::Device;
@@ -11,7 +14,7 @@ use crate::seen::Ranges;
 use dl_base::{
     Described, Item, List, Part, What, Why, described, is_not_page, is_too_high, is_too_large,
 };
-use fdt_nodes::{EntriesFault, Window, device_windows, own_cells, path};
+use fdt_nodes::{EntriesFault, Window, device_windows, own_cells, path, with_index};
 use fdt_tree::{NodeId, Tree};
 use std::alloc::{AllocError, Global};
 
@@ -83,21 +86,20 @@ fn ranges_in(alloc: Global, partial: &Tree, device: NodeId) -> Result<List<Windo
     }
 }
 
-/// Adds the items of the ranges of one device.
+/// Adds the items of the ranges of one device. All share the path of the first.
 fn add_ranges_of(
     alloc: Global,
-    guest: u32,
-    path: &[u8],
+    first: &Item,
     ranges: &[Window],
     before: &mut Ranges,
     items: &mut List<Described>,
 ) -> Result<(), AllocError>
-    ensures items { OnOk result (items.new ≡ items.old ++ ranges_after before.old (numbered guest path.now 0 ranges.now)) }
-    ensures before { OnOk result (before.new ≡ ranges_before before.old (numbered guest path.now 0 ranges.now)) }
+    ensures items { (guest : ℕ) (path : Bytes) → first.now ≡ item_in parts.Range guest path 0 → OnOk result (items.new ≡ items.old ++ ranges_after before.old (numbered guest path 0 ranges.now)) }
+    ensures before { (guest : ℕ) (path : Bytes) → OnOk result (before.new ≡ ranges_before before.old (numbered guest path 0 ranges.now)) }
 {
     let mut number = 0u64;
     for range in ranges {
-        let item = item_in(alloc, Part::Range, guest, path, number)?;
+        let item = with_index(alloc, first, number)?;
         items.push(range_item(before, item, *range)?)?;
         number += 1;
     }
@@ -118,15 +120,9 @@ fn add_ranges_at(
     ensures before { OnOk result (before.new ≡ ranges_before before.old (entries_of guest (node_of partial.now device))) }
 {
     let path = path(alloc, partial, device)?;
+    let first = item_in(alloc, Part::Range, guest, path.as_slice(), 0)?;
     let ranges = ranges_in(alloc, partial, device)?;
-    add_ranges_of(
-        alloc,
-        guest,
-        path.as_slice(),
-        ranges.as_slice(),
-        before,
-        items,
-    )
+    add_ranges_of(alloc, &first, ranges.as_slice(), before, items)
 }
 
 /// Adds the items of the ranges of devices.

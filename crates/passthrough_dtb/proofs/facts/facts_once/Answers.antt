@@ -1,0 +1,10 @@
+use Rattle.std.proofs.Common.{Some}
+use Rattle.fdt_nodes.specs.Held.{node_of}
+use Rattle.passthrough_dtb.specs.Facts.{AreFacts}
+use Rattle.passthrough_dtb.proofs.KnownNodes.{one_known}
+use Rattle.passthrough_dtb.proofs.facts.facts_once.Goals as goal
+
+pub returns-clause-known : goal.returns-clause-known
+returns-clause-known c =
+    one_known (λ node facts. AreFacts c.args.host.now.tree (Some (node_of c.args.host.now node)) facts) c.args.known.now c.insert.new.self c.in-Some.node c.facts_of-facts.result c.requires.known
+    c.in_ok-insert.ensures.updates c.facts_of-facts.ensures
