@@ -11,7 +11,8 @@ use Rattle.fdt_nodes.specs.Held.{node_of}
 use Rattle.domain_bindings.specs.Heads.{head_item, is_static}
 use Rattle.domain_bindings.specs.Statics.{bytes_in, list_item, static_item, range_items, static_items, statics_of}
 use Rattle.domain_bindings.specs.Modules.{module_item, module_items, modules_of}
-use Rattle.domain_bindings.specs.Domains.{domain_items, items_from}
+use Rattle.domain_bindings.specs.Domains.{domain_items}
+use Rattle.domain_bindings.specs.PrivateItems.{items_from}
 use Rattle.domain_bindings.specs.Hosts.{reg_of, host_item, memory_item, memory_items, reserved_item, reserved_nodes, reserve_item, reserve_items, memory_nodes, items_behind, host_items, dom0_items}
 use Rattle.domain_bindings.specs.Results.{domains_at}
 use Rattle.domain_bindings.specs.declared.domain.Domain.{Domain}

@@ -11,7 +11,7 @@ use Rattle.fdt_tree.specs.Document.{Document}
 use Rattle.fdt_nodes.specs.Nodes.{Node}
 use Rattle.fdt_nodes.specs.Held.{node_of}
 use Rattle.domain_bindings.specs.Modules.{are_alike, kind_of, first_of_kind, module_item, module_items}
-use Rattle.domain_bindings.specs.Firsts.{AreFirsts}
+use Rattle.domain_bindings.specs.PrivateFirsts.{AreFirsts}
 use Rattle.domain_bindings.proofs.Kept.{map_more}
 use Rattle.domain_bindings.proofs.ItemLemmas.{one_module}
 

@@ -14,7 +14,8 @@ use Rattle.fdt_tree.specs.Tree.{Bytes, Property, Trees, none, tree, Tree}
 use Rattle.fdt_nodes.specs.Nodes.{Node}
 use Rattle.fdt_nodes.specs.Controllers.{gic_of}
 use Rattle.domain_bindings.specs.Hosts.{host_items, memory_reason}
-use Rattle.domain_bindings.specs.Domains.{guest_nodes, items_from, bootargs_of}
+use Rattle.domain_bindings.specs.Domains.{guest_nodes, bootargs_of}
+use Rattle.domain_bindings.specs.PrivateItems.{items_from}
 use Rattle.domain_bindings.specs.Heads.{head_reason}
 use Rattle.domain_bindings.specs.Modules.{module_reason}
 

@@ -29,11 +29,6 @@ guest_nodes whole = filter is_domain (chosen_children whole)
 abbrev pub domain_items : ℕ → Node → List Described
 domain_items number node = head_item number node ∷ (static_items node ++ module_items [] (modules_of node))
 
--- the items of guests, of which the first has this number, guest by guest
-abbrev pub items_from : ℕ → List Node → List (List Described)
-items_from number [] = []
-items_from number (node ∷ nodes) = domain_items number node ∷ items_from (number + 1) nodes
-
 -- the words that its kernel is started with
 abbrev pub bootargs_of : Node → Option Bytes
 bootargs_of node = option_and_then (λ (kernel : Node). property_of kernel.properties (codes "bootargs")) (first_of_kind Kernel (modules_of node))

@@ -2,7 +2,7 @@
 ghost use Rattle.std.specs.Prelude.{◌≡◌, ◌<◌, ◌≤◌, ◌++◌, ◌∷◌, [], ℕ, List, Option, All, IfOk, IfSome, OnOk, length, map, option_map};
 ghost use Rattle.fdt_nodes.specs.Held.{node_of, Are};
 ghost use Rattle.domain_bindings.specs.Modules.{are_alike, first_of_kind, host_module_items, kind_of, module_item, module_items, module_reason, place_of};
-ghost use Rattle.domain_bindings.specs.Firsts.{AreFirsts};
+ghost use Rattle.domain_bindings.specs.PrivateFirsts.{AreFirsts};
 ghost use Rattle.fdt_nodes.specs.Nodes.{Node};
 
 use crate::reasons::is_too_high;

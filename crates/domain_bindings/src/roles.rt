@@ -5,7 +5,7 @@ ghost use Rattle.fdt_tree.specs.Values.{cells_of};
 ghost use Rattle.std.specs.Option.{option_map_or};
 ghost use Rattle.fdt_nodes.specs.Nodes.{children, node_found};
 ghost use Rattle.fdt_nodes.specs.Held.{node_of, Are};
-ghost use Rattle.domain_bindings.specs.Roles.{has_role};
+ghost use Rattle.domain_bindings.specs.PrivateRoles.{has_role};
 
 use dl_base::List;
 use fdt_nodes::{cell_count, children, found, has, is_compatible, is_memory};

@@ -8,7 +8,7 @@ use Rattle.dl_base.specs.declared.ranges.FrameRange.{FrameRange}
 use Rattle.domain_plan.specs.declared.state.Taken.{Taken}
 use Rattle.frame_ranges.specs.Ranges.{have_common}
 use Rattle.domain_plan.specs.Taken.{Passed, item_of}
-use Rattle.domain_plan.specs.Standing.{taken_at, taken_from}
+use Rattle.domain_plan.specs.PrivateStanding.{taken_at, taken_from}
 use Rattle.frame_ranges.proofs.CommonFrames.{none_common, common-cons_left}
 
 -- the range has something of these ranges

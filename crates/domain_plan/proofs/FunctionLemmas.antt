@@ -13,7 +13,7 @@ use Rattle.frame_ranges.specs.Ranges.{holds}
 use Rattle.domain_plan.specs.Taken.{Passed, belongs_to, bank_pages, bank_size}
 use Rattle.domain_plan.specs.GuestMaps.{onto, laid, maps_of}
 use Rattle.domain_plan.specs.Apart.{IsMappedBy, IsFunction}
-pub use Rattle.domain_plan.specs.Laying.{AreApart}
+pub use Rattle.domain_plan.specs.PrivateLaying.{AreApart}
 use Rattle.frame_ranges.proofs.CommonFrames.{not_both, or_tells, or_left, or_right, within_bounds, within_tells}
 use Rattle.domain_plan.proofs.MapLemmas.{target_of-append, either_target, total, onto_tells, item_ranges, items_tell}
 

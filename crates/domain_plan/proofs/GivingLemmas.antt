@@ -11,10 +11,10 @@ use Rattle.domain_plan.specs.declared.state.Owner.{Owner}
 use Rattle.domain_plan.specs.declared.state.State.{State}
 use Rattle.domain_plan.specs.Taken.{Passed, what_of, belongs_to, pages_of, passing}
 use Rattle.domain_plan.specs.GuestMaps.{laid, maps_of, guest_ranges}
-use Rattle.domain_plan.specs.Laying.{maps_by}
+use Rattle.domain_plan.specs.PrivateLaying.{maps_by}
 use Rattle.domain_plan.specs.Plans.{said_by, static_memory, region_of, port_of}
-use Rattle.domain_plan.specs.Standing.{Stands, taken_from, entry_of}
-use Rattle.domain_plan.specs.Giving.{irq_of, Gives}
+use Rattle.domain_plan.specs.PrivateStanding.{Stands, taken_from, entry_of}
+use Rattle.domain_plan.specs.PrivateGiving.{irq_of, Gives}
 use Rattle.std.proofs.lemmas.List.{map-append}
 use Rattle.domain_plan.specs.Taken.{all_passed}
 use Rattle.domain_plan.proofs.LoopLemmas.{all_passed-append}

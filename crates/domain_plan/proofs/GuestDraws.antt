@@ -13,7 +13,7 @@ use Rattle.frame_ranges.specs.Ranges.{holds}
 use Rattle.domain_plan.specs.Taken.{Passed}
 use Rattle.domain_plan.specs.Refusals.{Refusal}
 use Rattle.domain_plan.specs.Draws.{Drawn, Heaps, drawn, heaps, and_drawn, heap_item, is_claimed, free_frames}
-use Rattle.domain_plan.specs.Standing.{taken_at, taken_from, claims_taken}
+use Rattle.domain_plan.specs.PrivateStanding.{taken_at, taken_from, claims_taken}
 
 -- what guests before drew, and then the others
 abbrev pub after_draws : List (List FrameRange) → Result Heaps Refusal → Result Heaps Refusal

@@ -13,7 +13,7 @@ use Rattle.domain_plan.specs.declared.state.Taker.{Taker}
 use Rattle.domain_plan.specs.Taken.{Passed, item_of, what_of, belongs_to}
 use Rattle.dl_base.specs.Reasons.{where_so}
 use Rattle.domain_plan.specs.Reasons.{is_irq, is_past_spis, has_console}
-use Rattle.domain_plan.specs.Standing.{is_guest, is_other, first_other, is_irq_of_other, is_of_other, item_where}
+use Rattle.domain_plan.specs.PrivateStanding.{is_guest, is_other, first_other, is_irq_of_other, is_of_other, item_where}
 use Rattle.frame_ranges.proofs.CommonFrames.{or_none}
 
 belongs_is : (guest : Option ℕ) (p : Passed) → belongs_to guest p ≡ is_guest guest p.entry.guest

@@ -9,7 +9,7 @@ use Rattle.domain_plan.specs.declared.state.Taken.{Taken}
 use Rattle.frame_ranges.specs.Ranges.{touched, cut, between}
 use Rattle.domain_plan.specs.Entries.{Entry}
 use Rattle.domain_plan.specs.Taken.{Passed, is_loaded, is_repeated, claims_of, passing, all_passed}
-use Rattle.domain_plan.specs.Standing.{taken_at, taken_from, claims_taken}
+use Rattle.domain_plan.specs.PrivateStanding.{taken_at, taken_from, claims_taken}
 
 -- ranges that end at or below frame 2^28
 abbrev pub AreLow : List FrameRange → Type 0

@@ -25,7 +25,7 @@ use Rattle.domain_plan.specs.Entries.{Entry, of_host, of_guest, guest_entries, j
 use Rattle.domain_plan.specs.Taken.{Passed, what_of, belongs_to, static_pages, is_direct, pages_before, is_repeated, bank_pages, bank_size, pages_of, passing, all_passed}
 use Rattle.domain_plan.specs.Draws.{Heaps, heaps}
 use Rattle.domain_plan.specs.GuestMaps.{onto, laid, maps_of, guest_ranges}
-use Rattle.domain_plan.specs.Laying.{total, AreLowFrames, maps_by}
+use Rattle.domain_plan.specs.PrivateLaying.{total, AreLowFrames, maps_by}
 use Rattle.dl_base.specs.Sound.{AreWholePages, IsSound, SoundUnless}
 use Rattle.domain_plan.specs.Arguments.{AreSound, IsSoundGuest, has_no_fault, whats_of, head_of}
 use Rattle.frame_ranges.proofs.CommonFrames.{or_left, or_right}

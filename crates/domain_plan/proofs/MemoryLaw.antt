@@ -17,7 +17,7 @@ use Rattle.domain_plan.specs.Entries.{of_guest, is_read, items_of}
 use Rattle.domain_plan.specs.Taken.{Passed, says_direct, is_direct, static_pages, pages_before, bank_pages, all_passed}
 use Rattle.domain_plan.specs.Draws.{free_frames}
 use Rattle.domain_plan.specs.GuestMaps.{laid, guest_ranges}
-use Rattle.domain_plan.specs.Laying.{total, maps_by, AreApart}
+use Rattle.domain_plan.specs.PrivateLaying.{total, maps_by, AreApart}
 use Rattle.domain_plan.specs.Arguments.{AreRead, IsSoundGuest, head_of}
 use Rattle.domain_plan.specs.Plans.{passed_of, said_by, static_memory, banks_filled, memories_of}
 use Rattle.domain_plan.specs.Memories.{is_ram, is_listed, HasOneKindOfMemory, MemoryIsMapped}

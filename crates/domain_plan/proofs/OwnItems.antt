@@ -21,7 +21,7 @@ use Rattle.domain_plan.specs.Entries.{Entry, of_host, of_guest, guest_entries, l
 use Rattle.domain_plan.specs.Taken.{Passed, what_of, belongs_to, says_direct, is_direct, static_pages, pages_before, is_range, is_repeated, bank_pages, pages_of, passing, all_passed}
 use Rattle.domain_plan.specs.Reasons.{is_irq}
 use Rattle.domain_plan.specs.GuestMaps.{laid, guest_ranges}
-use Rattle.domain_plan.specs.Laying.{maps_by}
+use Rattle.domain_plan.specs.PrivateLaying.{maps_by}
 use Rattle.domain_plan.specs.Plans.{passed_of, said_by, static_memory, banks_filled, region_of, port_of, IsGuestPlan}
 use Rattle.domain_plan.proofs.LoopLemmas.{all_passed-append}
 use Rattle.domain_plan.proofs.GuestsLaw.{belongs_tells}

@@ -17,9 +17,9 @@ use Rattle.domain_plan.specs.Refusals.{Refusal, first_refused}
 use Rattle.domain_plan.specs.Draws.{Drawn, Heaps, drawn, heaps, and_drawn, heap_item, free_frames}
 use Rattle.dl_base.specs.Sound.{IsSound}
 use Rattle.domain_plan.specs.Arguments.{AreRead, IsSoundGuest}
-use Rattle.domain_plan.specs.Laying.{total, AreApart}
+use Rattle.domain_plan.specs.PrivateLaying.{total, AreApart}
 use Rattle.domain_plan.specs.Plans.{passed_of, IsGuestPlan, AreGuestPlans}
-use Rattle.domain_plan.specs.Giving.{IsReady}
+use Rattle.domain_plan.specs.PrivateGiving.{IsReady}
 use Rattle.domain_plan.proofs.ApartLemmas.{free_ascending}
 use Rattle.domain_plan.proofs.HeadLemmas.{heaps_total, no_own}
 use Rattle.domain_plan.proofs.GuestsLaw.{guests_apart, sound_guest}

@@ -16,7 +16,7 @@ use Rattle.domain_plan.specs.Taken.{Passed, item_of, what_of, belongs_to}
 use Rattle.dl_base.specs.Reasons.{where_so}
 use Rattle.domain_plan.specs.Reasons.{naming_first, layout_pages, guest_overlap, fills, partial_unread, are_one_region, have_one_base, unlike, is_owner, is_irq, of_another_guest, irq_too_high, irq_of_console, irq_of_another}
 use Rattle.domain_plan.specs.Refusals.{cross_reasons, first_there}
-use Rattle.domain_plan.specs.Standing.{claims_taken, pages_taken, overlap_in, is_region, naming_reasons, landing_reasons, is_of_other, irq_reasons}
+use Rattle.domain_plan.specs.PrivateStanding.{claims_taken, pages_taken, overlap_in, is_region, naming_reasons, landing_reasons, is_of_other, irq_reasons}
 use Rattle.frame_ranges.proofs.CommonFrames.{none_common}
 
 pub find_same : (p q : Passed → Bool) (xs : List Passed) → ((x : Passed) → p x ≡ q x) → find p xs ≡ find q xs

@@ -17,7 +17,7 @@ use Rattle.frame_ranges.specs.Ranges.{have_common}
 use Rattle.domain_plan.specs.Taken.{Passed, item_of, what_of, belongs_to}
 use Rattle.dl_base.specs.Reasons.{where_so}
 use Rattle.domain_plan.specs.Reasons.{have_one_base, unlike, is_owner}
-use Rattle.domain_plan.specs.Standing.{taken_at, taken_from, claims_taken, is_guest, region_in, regions_from, is_region, is_sought, is_region_at}
+use Rattle.domain_plan.specs.PrivateStanding.{taken_at, taken_from, claims_taken, is_guest, region_in, regions_from, is_region, is_sought, is_region_at}
 use Rattle.frame_ranges.proofs.CommonFrames.{none_common, common-cons_left}
 
 pub found : {A : Type 0} (test : A → Bool) (one : A) (rest : List A) → test one ≡ true → find test (one ∷ rest) ≡ Some one

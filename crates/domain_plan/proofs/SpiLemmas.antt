@@ -9,7 +9,7 @@ use Rattle.dl_base.specs.declared.item.What.TheVariants as whats
 use Rattle.domain_plan.specs.Taken.{Passed, what_of, belongs_to}
 use Rattle.domain_plan.specs.Reasons.{is_irq}
 use Rattle.domain_plan.specs.Plans.{said_by}
-use Rattle.domain_plan.specs.Giving.{irq_of}
+use Rattle.domain_plan.specs.PrivateGiving.{irq_of}
 use Rattle.dl_base.specs.Consecutive.{numbers}
 use Rattle.dl_base.proofs.NumberLists.{numbers-zero, numbers-cons}
 

@@ -23,7 +23,7 @@ use Rattle.domain_plan.specs.declared.state.Taken.{Taken}
 use Rattle.domain_plan.specs.declared.reasons.Takes.{Takes}
 use Rattle.frame_ranges.specs.Ranges.{cut}
 use Rattle.domain_plan.specs.Taken.{Passed, item_of, what_of, belongs_to, says_direct, is_direct, static_pages, pages_before, claims_of, pages_of, passing, is_load_over, is_loaded, is_range, is_repeated}
-use Rattle.domain_plan.specs.Standing.{Stands, IsAdded, taken_at, taken_from, claims_taken, pages_taken, load_in, entry_of, in_guest, is_of_other, item_where}
+use Rattle.domain_plan.specs.PrivateStanding.{Stands, IsAdded, taken_at, taken_from, claims_taken, pages_taken, load_in, entry_of, in_guest, is_of_other, item_where}
 
 abbrev over : BaseSize → BaseSize → Bool
 over at load = (load.base == at.base) && nat_le at.size load.size

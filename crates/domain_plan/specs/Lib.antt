@@ -2,13 +2,13 @@ pub mod Apart
 pub mod Arguments
 pub mod Draws
 pub mod Entries
-pub mod Giving
 pub mod GuestMaps
-pub mod Laying
 pub mod MapOrder
 pub mod Memories
 pub mod Plans
+pub mod PrivateGiving
+pub mod PrivateLaying
+pub mod PrivateStanding
 pub mod Reasons
 pub mod Refusals
-pub mod Standing
 pub mod Taken

@@ -6,7 +6,7 @@ ghost use Rattle.domain_plan.specs.Entries.{load_item, partial_items, is_read, i
 ghost use Rattle.domain_plan.specs.Plans.{passed_of};
 ghost use Rattle.domain_plan.specs.Taken.{Passed, belongs_to, all_passed};
 ghost use Rattle.domain_plan.specs.Refusals.{first_refused};
-ghost use Rattle.domain_plan.specs.Standing.{Stands, Checked, AreOfHost};
+ghost use Rattle.domain_plan.specs.PrivateStanding.{Stands, Checked, AreOfHost};
 
 use crate::described::{Guest, PartialState};
 use crate::passing::check_items;

@@ -3,7 +3,7 @@ ghost use Rattle.std.specs.Prelude.{◌≡◌, ℕ, List, None, Some, map, lengt
 ghost use Rattle.dl_base.specs.declared.why.Why.TheVariants as whys;
 ghost use Rattle.frame_alloc.specs.Frames.{lowest_chunk, lowest_frame, AreFrameRanges};
 ghost use Rattle.domain_plan.specs.Taken.{Passed};
-ghost use Rattle.domain_plan.specs.Standing.{taken_from, claims_taken};
+ghost use Rattle.domain_plan.specs.PrivateStanding.{taken_from, claims_taken};
 ghost use Rattle.domain_plan.specs.Draws.{Drawn, Heaps, groups_drawn, drawn, heaps, free_frames};
 
 use crate::described::Guest;

@@ -2,7 +2,7 @@
 ghost use Rattle.std.specs.Prelude.{◌≡◌, ℕ, List, [], ◌∷◌, Option, find, option_map, option_and_then, slice_get};
 ghost use Rattle.frame_ranges.specs.Ranges.{have_common};
 ghost use Rattle.domain_plan.specs.Taken.{Passed, item_of};
-ghost use Rattle.domain_plan.specs.Standing.{Stands, claims_taken, pages_taken};
+ghost use Rattle.domain_plan.specs.PrivateStanding.{Stands, claims_taken, pages_taken};
 
 use crate::state::{State, Taken};
 use dl_base::{FrameRange, Item};

@@ -5,9 +5,9 @@ ghost use Rattle.domain_plan.specs.Entries.{of_guest, is_read, items_of};
 ghost use Rattle.domain_plan.specs.Taken.{Passed, passing, all_passed};
 ghost use Rattle.domain_plan.specs.GuestMaps.{onto, laid};
 ghost use Rattle.domain_plan.specs.Plans.{static_memory, region_of, port_of};
-ghost use Rattle.domain_plan.specs.Standing.{Stands, entry_of};
-ghost use Rattle.domain_plan.specs.Giving.{irq_of, Gives};
-ghost use Rattle.domain_plan.specs.Laying.{total, AreLowFrames, maps_by};
+ghost use Rattle.domain_plan.specs.PrivateStanding.{Stands, entry_of};
+ghost use Rattle.domain_plan.specs.PrivateGiving.{irq_of, Gives};
+ghost use Rattle.domain_plan.specs.PrivateLaying.{total, AreLowFrames, maps_by};
 
 use crate::checking::{is_read, partial_items};
 use crate::described::Guest;

@@ -8,9 +8,9 @@ ghost use Rattle.domain_plan.specs.Entries.{of_guest, is_read, items_of};
 ghost use Rattle.domain_plan.specs.Taken.{all_passed};
 ghost use Rattle.domain_plan.specs.GuestMaps.{guest_ranges};
 ghost use Rattle.domain_plan.specs.MapOrder.{in_order};
-ghost use Rattle.domain_plan.specs.Laying.{total, AreLowFrames};
+ghost use Rattle.domain_plan.specs.PrivateLaying.{total, AreLowFrames};
 ghost use Rattle.domain_plan.specs.Plans.{banks_filled, gic_of, IsGuestPlan};
-ghost use Rattle.domain_plan.specs.Giving.{IsReady};
+ghost use Rattle.domain_plan.specs.PrivateGiving.{IsReady};
 
 use crate::described::{Guest, PartialState};
 use crate::giving::{Given, gather};

@@ -3,7 +3,7 @@ ghost use Rattle.std.specs.Prelude.{◌≡◌, ℕ, ◌+◌, ◌^◌, ◌≤◌,
 ghost use Rattle.frame_alloc.specs.Frames.{AreFrameRanges};
 ghost use Rattle.domain_plan.specs.Taken.{Passed, passing, all_passed, claims_of, pages_of, says_direct, static_pages, is_range};
 ghost use Rattle.domain_plan.specs.Refusals.{why, first_refused};
-ghost use Rattle.domain_plan.specs.Standing.{Stands, IsAdded, taken_at, load_in, entry_of, in_guest, has_triple, region_in, is_past, first_other, is_irq_of_other};
+ghost use Rattle.domain_plan.specs.PrivateStanding.{Stands, IsAdded, taken_at, load_in, entry_of, in_guest, has_triple, region_in, is_past, first_other, is_irq_of_other};
 ghost use Rattle.std.specs.Prelude.{if◌then◌else◌};
 ghost use Rattle.std.specs.Option.{option_or};
 ghost use Rattle.domain_plan.specs.Reasons.{is_past_spis, has_console};

@@ -8,7 +8,7 @@ ghost use Rattle.domain_plan.specs.Taken.{Passed};
 ghost use Rattle.dl_base.specs.Reasons.{where_so};
 ghost use Rattle.domain_plan.specs.Reasons.{naming_first, layout, layout_pages, is_device_tree};
 ghost use Rattle.domain_plan.specs.Refusals.{cross_reasons, first_there};
-ghost use Rattle.domain_plan.specs.Standing.{Stands, claims_taken, pages_taken, entry_of, mine_of, overlap_in};
+ghost use Rattle.domain_plan.specs.PrivateStanding.{Stands, claims_taken, pages_taken, entry_of, mine_of, overlap_in};
 
 use crate::state::{Owner, State};
 use dl_base::{Bytes, Described, FrameRange, Item, ModuleKind, Part, What, Why};

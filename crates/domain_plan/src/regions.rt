@@ -8,7 +8,7 @@ ghost use Rattle.frame_ranges.specs.Ranges.{have_common};
 ghost use Rattle.domain_plan.specs.Taken.{Passed, belongs_to, item_of, what_of};
 ghost use Rattle.dl_base.specs.Reasons.{where_so};
 ghost use Rattle.domain_plan.specs.Reasons.{naming_first, is_owner, unlike};
-ghost use Rattle.domain_plan.specs.Standing.{Stands, claims_taken, is_guest, is_region, is_sought, is_region_at, naming_reasons, landing_reasons};
+ghost use Rattle.domain_plan.specs.PrivateStanding.{Stands, claims_taken, is_guest, is_region, is_sought, is_region_at, naming_reasons, landing_reasons};
 
 use crate::reasons::{Takes, lie_in};
 use crate::state::{Owner, Region, State, Taken};

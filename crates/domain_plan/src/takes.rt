@@ -3,7 +3,7 @@ ghost use Rattle.std.specs.Prelude.{◌≡◌, ℕ, ◌+◌, ◌^◌, ◌≤◌,
 ghost use Rattle.std.specs.List.{list_any};
 ghost use Rattle.frame_ranges.specs.Ranges.{touched};
 ghost use Rattle.domain_plan.specs.Taken.{Passed, is_loaded, is_repeated, bank_pages, claims_of, pages_of};
-ghost use Rattle.domain_plan.specs.Standing.{Stands, entry_of, has_triple};
+ghost use Rattle.domain_plan.specs.PrivateStanding.{Stands, entry_of, has_triple};
 
 use crate::state::{Owner, State, Triple};
 use dl_base::{BaseSize, Described, FrameRange, What};

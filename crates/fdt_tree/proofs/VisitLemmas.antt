@@ -8,7 +8,8 @@ use Rattle.std.proofs.lemmas.Slice.Eq.{bytes_eq-Decides}
 use Rattle.fdt_tree.specs.Tree.{Trees, none, tree, Tree, Place, at_in, at}
 use Rattle.fdt_tree.specs.Document.{Document, place_of, IsNumbering}
 use Rattle.fdt_tree.specs.Visits.{Seen, begins, ends, visits_below, visits, seen, IsLive}
-use Rattle.fdt_tree.specs.Upcoming.{number_in, visit_of, upcoming, IsTurn}
+use Rattle.fdt_tree.specs.Upcoming.{number_in, visit_of, upcoming}
+use Rattle.fdt_tree.specs.PrivateTurns.{IsTurn}
 use Rattle.fdt_tree.specs.declared.walk.Step.{Step}
 use Rattle.fdt_tree.specs.declared.walk.Step.TheVariants.{Before}
 use Rattle.fdt_tree.specs.declared.walk.Turn.{Turn}

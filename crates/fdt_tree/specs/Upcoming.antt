@@ -1,11 +1,10 @@
--- For proofs and private contracts alone: what is still to come on a walk, by the node at which it stands.
-use Rattle.std.specs.Prelude.{◌≡◌, ◌<◌, ℕ, zero, suc, ◌+◌, List, [], ◌∷◌, ◌++◌, if◌then◌else◌, length, map, bytes_eq}
+-- What is still to come on a walk, by the node at which it stands.
+use Rattle.std.specs.Prelude.{◌<◌, ℕ, zero, suc, ◌+◌, List, [], ◌∷◌, ◌++◌, if◌then◌else◌, length, map, bytes_eq}
 use Rattle.fdt_tree.specs.Tree.{Trees, none, tree, Tree, Place}
 use Rattle.fdt_tree.specs.Document.{Document, place_of, name_of, properties_of, children_of, IsNumbering}
-use Rattle.fdt_tree.specs.Visits.{Seen, begins, ends, visits_below, seen, IsLive}
+use Rattle.fdt_tree.specs.Visits.{Seen, begins, ends, visits_below}
 use Rattle.fdt_tree.specs.declared.walk.Step.{Step}
 use Rattle.fdt_tree.specs.declared.walk.Step.TheVariants.{Before, Entered, Left}
-use Rattle.fdt_tree.specs.declared.walk.Turn.{Turn}
 use Rattle.fdt_tree.specs.declared.walk.Visit.{Visit}
 use Rattle.fdt_tree.specs.declared.walk.Visit.TheVariants.{Enter, Leave}
 
@@ -51,9 +50,3 @@ upcoming d node step = map (visit_of d) (visits_left d node step)
 pub record IsAt (d : Document) (node : ℕ) : Type 0 where
   pub numbered : IsNumbering d
   pub live : node < length d.places
-
--- The turn gives the first of what is to be seen, and leaves the others.
-pub record IsTurn (d : Document) (node : ℕ) (step : Step) (turn : Turn) : Type 0 where
-  pub first : visits_left d node step ≡ seen d turn.visit ∷ visits_left d turn.node turn.step
-  pub visit : IsLive d turn.visit
-  pub live : turn.node < length d.places

@@ -2,7 +2,8 @@
 ghost use Rattle.std.specs.Prelude.{◌≡◌, ◌<◌, [], length, map, All, IfNone, IfSome};
 ghost use Rattle.fdt_tree.specs.Document.{IsNumbering};
 ghost use Rattle.fdt_tree.specs.Visits.{visits, entered, seen, IsLive};
-ghost use Rattle.fdt_tree.specs.Upcoming.{IsTurn, visits_left};
+ghost use Rattle.fdt_tree.specs.Upcoming.{visits_left};
+ghost use Rattle.fdt_tree.specs.PrivateTurns.{IsTurn};
 ghost use Rattle.fdt_tree.specs.declared.walk.Step.TheVariants.{Entered, Left};
 
 use crate::node_id::NodeId;

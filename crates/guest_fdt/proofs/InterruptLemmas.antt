@@ -25,7 +25,7 @@ use Rattle.passthrough_dtb.specs.Ranges.{Entry, entries_of, ranges_after, range_
 use Rattle.passthrough_dtb.specs.Interrupts as theirs
 use Rattle.passthrough_dtb.specs.Items.{partial_items}
 use Rattle.passthrough_dtb.specs.declared.interrupts.Interrupt.{Interrupt}
-use Rattle.domain_plan.specs.Giving.{irq_of}
+use Rattle.domain_plan.specs.PrivateGiving.{irq_of}
 use Rattle.tree_parts.specs.Nodes.{on_some}
 use Rattle.guest_fdt.specs.Entries.{triple, triples}
 use Rattle.guest_fdt.specs.Listed.{devices_below, devices_in, interrupts_of, interrupts_in, in_order}

@@ -14,9 +14,9 @@ use Rattle.domain_plan.specs.declared.described.Guest.{Guest}
 use Rattle.domain_plan.specs.declared.planned.GuestPlan.{GuestPlan}
 use Rattle.domain_plan.specs.Arguments.{AreRead, IsSoundGuest, has_no_fault}
 use Rattle.domain_plan.specs.Entries.{items_of, joined}
-use Rattle.domain_plan.specs.Giving.{IsReady}
+use Rattle.domain_plan.specs.PrivateGiving.{IsReady}
 use Rattle.domain_plan.specs.GuestMaps.{guest_ranges}
-use Rattle.domain_plan.specs.Laying.{AreApart, AreLowRanges}
+use Rattle.domain_plan.specs.PrivateLaying.{AreApart, AreLowRanges}
 use Rattle.domain_plan.specs.Memories.{is_listed, is_ram, is_ram_target}
 use Rattle.domain_plan.specs.Plans.{memories_of}
 use Rattle.domain_plan.specs.Taken.{Passed}

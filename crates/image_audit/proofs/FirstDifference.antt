@@ -12,7 +12,7 @@ use Rattle.dl_base.specs.declared.ranges.MapRange.{MapRange}
 use Rattle.dl_base.proofs.NumberLists.{find-map-numbers, find-map-numbers-none}
 use Rattle.stage2_walk.specs.Pages.{Page}
 use Rattle.stage2_walk.specs.Runs.{PageMap, map_of, mapped_runs}
-use Rattle.stage2_walk.specs.Reads.{IsGap, HasRuns}
+use Rattle.stage2_walk.specs.PrivateReads.{IsGap, HasRuns}
 use Rattle.stage2_walk.specs.declared.run.Run.{Run}
 use Rattle.stage2_walk.proofs.RunSteps.{HasRuns-within}
 use Rattle.image_audit.specs.Findings.{planned_map, are_one, differ_at, first_difference}

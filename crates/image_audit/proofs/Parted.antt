@@ -8,7 +8,8 @@ use Rattle.dl_base.specs.declared.ranges.Kind.TheVariants.{Ram, Device, Shared}
 use Rattle.dl_base.specs.declared.ranges.MapRange.{MapRange}
 use Rattle.dl_base.proofs.RunLemmas.{holds_tells}
 use Rattle.stage2_walk.specs.Runs.{PageMap, runs_of}
-use Rattle.stage2_walk.specs.Reads.{with_leaf, IsMapped, HasRuns}
+use Rattle.stage2_walk.specs.PrivateReads.{IsMapped, HasRuns}
+use Rattle.stage2_walk.specs.JoinedRuns.{with_leaf}
 use Rattle.stage2_walk.specs.declared.run.Run.{Run}
 use Rattle.stage2_walk.proofs.RunSteps.{HasRuns-gap, HasRuns-leaf}
 use Rattle.stage2_walk.proofs.RunsWhole.{runs_of-HasRuns}

@@ -11,7 +11,7 @@ use Rattle.passthrough_dtb.specs.declared.interrupts.Interrupt.{Interrupt}
 use Rattle.dl_base.specs.Reasons.{described}
 use Rattle.passthrough_dtb.specs.Whole.{item_in}
 use Rattle.passthrough_dtb.specs.Interrupts.{interrupt_in, interrupt_reason, interrupts_from}
-use Rattle.passthrough_dtb.specs.Tables.{Tells, is_held}
+use Rattle.passthrough_dtb.specs.PrivateTables.{Tells, is_held}
 use Rattle.passthrough_dtb.proofs.Lists.{next_entry}
 
 -- the interrupts of some bytes

@@ -76,8 +76,3 @@ entries_of guest device = numbered guest (shown device.path) 0 (ranges_in device
 -- the ranges of all devices
 abbrev pub range_items : Tree → ℕ → List Described
 range_items partial guest = ranges_after [] (flat_map (entries_of guest) (devices partial))
-
--- what stands before the ranges that follow these
-abbrev pub ranges_before : List Window → List Entry → List Window
-ranges_before before [] = before
-ranges_before before (entry ∷ rest) = ranges_before (and_range before entry.range) rest

@@ -2,7 +2,7 @@
 ghost use Rattle.std.specs.Prelude.{◌≡◌, ◌≤◌, ◌<◌, Option, length, not, option_map};
 ghost use Rattle.fdt_tree.specs.Tree.{Tree as Trees};
 ghost use Rattle.fdt_nodes.specs.Nodes.{Node};
-ghost use Rattle.passthrough_dtb.specs.Facts.{AreFacts};
+ghost use Rattle.passthrough_dtb.specs.PrivateFacts.{AreFacts};
 ghost use Rattle.fdt_tree.specs.Document.{properties_of};
 ghost use Rattle.fdt_nodes.specs.Held.{node_of};
 ghost use Rattle.fdt_nodes.specs.Values.{passes};

@@ -3,9 +3,9 @@ ghost use Rattle.std.specs.Prelude.{◌≡◌, ◌<◌, ◌++◌, ◌∷◌, [],
 ghost use Rattle.fdt_nodes.specs.Held.{node_of, Are};
 ghost use Rattle.fdt_nodes.specs.Controllers.{gic_phandle};
 ghost use Rattle.passthrough_dtb.specs.Devices.{is_device, device_item};
-ghost use Rattle.passthrough_dtb.specs.Facts.{AreKnown};
+ghost use Rattle.passthrough_dtb.specs.PrivateFacts.{AreKnown};
 ghost use Rattle.passthrough_dtb.specs.Whole.{passed_nodes};
-ghost use Rattle.passthrough_dtb.specs.Held.{device_of, IsDevice, AreDevices};
+ghost use Rattle.passthrough_dtb.specs.PrivateHeld.{device_of, IsDevice, AreDevices};
 
 use crate::device::reason_at;
 use crate::facts::{Known, facts_once};

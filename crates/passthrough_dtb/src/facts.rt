@@ -3,7 +3,7 @@ ghost use Rattle.std.specs.Prelude.{◌≡◌, ◌<◌, Some, None, length, opti
 ghost use Rattle.std.specs.Option.{ForSome};
 ghost use Rattle.fdt_nodes.specs.Controllers.{gic_phandle};
 ghost use Rattle.fdt_nodes.specs.Held.{node_of};
-ghost use Rattle.passthrough_dtb.specs.Facts.{AreFacts, AreKnown};
+ghost use Rattle.passthrough_dtb.specs.PrivateFacts.{AreFacts, AreKnown};
 
 use crate::device::has_bad_threes;
 use crate::gic::is_on_gic;

@@ -8,9 +8,9 @@ ghost use Rattle.dl_base.specs.declared.item.Part.TheVariants as parts;
 ghost use Rattle.fdt_tree.specs.Tree.{Bytes};
 ghost use Rattle.fdt_nodes.specs.Entries.{split_entries};
 ghost use Rattle.passthrough_dtb.specs.Interrupts.{interrupt_in, interrupts_in, is_no_spi, interrupt_reason, interrupts_from, irq_items};
-ghost use Rattle.passthrough_dtb.specs.Tables.{Tells, AreTables};
+ghost use Rattle.passthrough_dtb.specs.PrivateTables.{Tells, AreTables};
 ghost use Rattle.passthrough_dtb.specs.Whole.{item_in};
-ghost use Rattle.passthrough_dtb.specs.Held.{device_of, IsDevice, AreDevices};
+ghost use Rattle.passthrough_dtb.specs.PrivateHeld.{device_of, IsDevice, AreDevices};
 
 use crate::devices::Device;
 use crate::items::item_in;

@@ -4,9 +4,10 @@ ghost use Rattle.dl_base.specs.declared.item.Part.TheVariants as parts;
 ghost use Rattle.fdt_tree.specs.Tree.{Bytes};
 ghost use Rattle.fdt_nodes.specs.declared.entries.Window.{Window as Range};
 ghost use Rattle.fdt_nodes.specs.Held.{node_of};
-ghost use Rattle.passthrough_dtb.specs.Ranges.{is_among, and_range, range_reason, new_range_reason, range_item, ranges_after, ranges_before, ranges_in, whole_ranges, numbered, entries_of};
+ghost use Rattle.passthrough_dtb.specs.Ranges.{is_among, and_range, range_reason, new_range_reason, range_item, ranges_after, ranges_in, whole_ranges, numbered, entries_of};
+ghost use Rattle.passthrough_dtb.specs.PrivateRanges.{ranges_before};
 ghost use Rattle.passthrough_dtb.specs.Whole.{item_in};
-ghost use Rattle.passthrough_dtb.specs.Held.{device_of, AreDevices};
+ghost use Rattle.passthrough_dtb.specs.PrivateHeld.{device_of, AreDevices};
 
 use crate::devices::Device;
 use crate::items::item_in;

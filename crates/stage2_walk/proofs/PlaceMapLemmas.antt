@@ -12,7 +12,7 @@ use Rattle.dl_base.specs.Consecutive.{numbers}
 use Rattle.dl_base.proofs.NumberLists.{find-map-numbers, find-map-numbers-none, same-map-numbers}
 use Rattle.stage2_walk.specs.Pages.{Page, page_of, number_at, page_at, pages_at}
 use Rattle.stage2_walk.specs.Places.{place_in, AreAscending}
-use Rattle.stage2_walk.specs.PlaceMaps.{ArePlaces, entry_of}
+use Rattle.stage2_walk.specs.PrivatePlaceMaps.{ArePlaces, entry_of}
 use Rattle.stage2_walk.specs.ImageViews.{IsIndex}
 use Rattle.stage2_walk.specs.declared.places.Place.{Place}
 use Rattle.stage2_walk.proofs.Numbers.{little_from-drop}

@@ -2,7 +2,7 @@
 ghost use Rattle.std.specs.Prelude.{◌≡◌, ◌≢◌, ℕ, ◌+◌, ◌*◌, ◌<◌, ◌^◌, length, map, IfOk, IfErr, OnOk, Err, None};
 ghost use Rattle.stage2_walk.specs.Pages.{frames_of, number_at, pages_at};
 ghost use Rattle.stage2_walk.specs.Files.{checked, first_repeat};
-ghost use Rattle.stage2_walk.specs.PlaceMaps.{ArePlaces, entry_of};
+ghost use Rattle.stage2_walk.specs.PrivatePlaceMaps.{ArePlaces, entry_of};
 
 use crate::bytes::{HEADER_BYTES, PAGE_BYTES, read_number};
 use crate::image_fault::ImageFault;

@@ -6,7 +6,7 @@ ghost use Rattle.fdt_nodes.specs.Held.{node_of};
 ghost use Rattle.static_links.specs.Channels.{event_channels, ends_of, other_end};
 ghost use Rattle.static_links.specs.Ports.{holds, lacks_port, port_reason, port_what, port_item, port_items};
 ghost use Rattle.dl_base.specs.Sound.{AreSound};
-ghost use Rattle.static_links.specs.Held.{ends_at, channel_at, has_ends, IsPeer, ArePeers};
+ghost use Rattle.static_links.specs.PrivateHeld.{ends_at, channel_at, has_ends, IsPeer, ArePeers};
 
 use crate::channels::{End, Peer, end_of, is_port, other_end, peers};
 use crate::nodes::children_with;

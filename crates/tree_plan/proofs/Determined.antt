@@ -19,7 +19,7 @@ use Rattle.domain_plan.specs.declared.planned.GuestPlan.{GuestPlan}
 use Rattle.domain_plan.specs.Arguments.{AreRead}
 use Rattle.domain_plan.specs.Draws.{Heaps}
 use Rattle.domain_plan.specs.GuestMaps.{guest_ranges}
-use Rattle.domain_plan.specs.Laying.{AreApart, AreLowRanges}
+use Rattle.domain_plan.specs.PrivateLaying.{AreApart, AreLowRanges}
 use Rattle.domain_plan.specs.MapOrder.{in_order, joined_ranges}
 use Rattle.domain_plan.specs.Plans.{passed_of, outcome, gic_of, memories_of, spis_of, said_by, region_of, IsGuestPlan, AreGuestPlans}
 use Rattle.domain_plan.specs.Taken.{Passed}

@@ -1,6 +1,6 @@
 use Rattle.std.proofs.Common.{◌≡◌, sym, subst, All}
 use Rattle.fdt_nodes.specs.Held.{node_of}
-use Rattle.domain_bindings.specs.Roles.{has_role}
+use Rattle.domain_bindings.specs.PrivateRoles.{has_role}
 use Rattle.domain_bindings.proofs.Kept.{kept_cells}
 use Rattle.domain_bindings.proofs.roles.siblings_with.Goals as goal
 

@@ -7,7 +7,7 @@ use Rattle.domain_plan.specs.declared.described.Guest.{Guest}
 use Rattle.domain_plan.specs.Entries.{Entry, of_host, load_item, guest_entries, joined}
 use Rattle.domain_plan.specs.Taken.{Passed, all_passed}
 use Rattle.domain_plan.specs.Refusals.{Refusal, first_refused}
-use Rattle.domain_plan.specs.Standing.{Stands, AreOfHost}
+use Rattle.domain_plan.specs.PrivateStanding.{Stands, AreOfHost}
 use Rattle.domain_plan.proofs.LoopLemmas.{all_passed-append, first_refused-append}
 use Rattle.domain_plan.proofs.GuestSteps.{fresh_host}
 use Rattle.domain_plan.proofs.checking.check_all.Goals as goal

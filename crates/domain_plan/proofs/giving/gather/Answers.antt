@@ -8,8 +8,8 @@ use Rattle.dl_base.specs.Sound.{IsSound}
 use Rattle.domain_plan.specs.Entries.{of_guest, items_of, partial_items, is_read}
 use Rattle.domain_plan.specs.GuestMaps.{laid}
 use Rattle.domain_plan.specs.Taken.{Passed, all_passed}
-use Rattle.domain_plan.specs.Standing.{entry_of}
-use Rattle.domain_plan.specs.Giving.{Gives}
+use Rattle.domain_plan.specs.PrivateStanding.{entry_of}
+use Rattle.domain_plan.specs.PrivateGiving.{Gives}
 use Rattle.domain_plan.proofs.GivingLemmas.{gives_none, four_passed, all_left, all_right}
 use Rattle.domain_plan.proofs.giving.gather.Goals as goal
 

@@ -1,7 +1,7 @@
 use Rattle.std.proofs.Common.{ℕ, [], ◌∷◌, ◌++◌, Option, sym, subst, ◌∙◌}
 use Rattle.domain_plan.specs.declared.giving.Given.{Given}
 use Rattle.domain_plan.specs.Taken.{passing}
-use Rattle.domain_plan.specs.Standing.{Stands, entry_of}
+use Rattle.domain_plan.specs.PrivateStanding.{Stands, entry_of}
 use Rattle.domain_plan.proofs.StandingLemmas.{stands_more}
 use Rattle.domain_plan.proofs.GivingLemmas.{gives_more}
 use Rattle.domain_plan.proofs.giving.give_item.Goals as goal

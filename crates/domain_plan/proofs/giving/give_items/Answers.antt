@@ -1,8 +1,8 @@
 use Rattle.std.proofs.Common.{◌≡◌, ◌+◌, List, [], ◌∷◌, ◌++◌, sym, ap, subst, ◌∙◌}
 use Rattle.dl_base.specs.declared.item.Described.{Described}
 use Rattle.domain_plan.specs.Taken.{Passed, passing}
-use Rattle.domain_plan.specs.Standing.{entry_of}
-use Rattle.domain_plan.specs.Giving.{Gives}
+use Rattle.domain_plan.specs.PrivateStanding.{entry_of}
+use Rattle.domain_plan.specs.PrivateGiving.{Gives}
 use Rattle.domain_plan.proofs.LoopLemmas.{all_passed-none, passed_to, passed_to-more}
 use Rattle.domain_plan.proofs.giving.give_items.Goals as goal
 

@@ -10,7 +10,7 @@ use Rattle.domain_plan.specs.Reasons.{is_irq}
 use Rattle.domain_plan.specs.GuestMaps.{guest_ranges}
 use Rattle.domain_plan.specs.MapOrder.{in_order, joined_ranges}
 use Rattle.domain_plan.specs.Plans.{said_by, static_memory, banks_filled}
-use Rattle.domain_plan.specs.Giving.{irq_of}
+use Rattle.domain_plan.specs.PrivateGiving.{irq_of}
 use Rattle.domain_plan.proofs.MapResult.{IsMapOf, sorted_in_order, map_result}
 use Rattle.domain_plan.proofs.SpiLemmas.{filter_same, irqs_tell}
 use Rattle.domain_plan.proofs.guest_plan.guest_plan.Goals as goal

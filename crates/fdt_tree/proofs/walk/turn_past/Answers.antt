@@ -1,5 +1,5 @@
 use Rattle.std.proofs.Common.{sym, subst}
-use Rattle.fdt_tree.specs.Upcoming.{IsTurn}
+use Rattle.fdt_tree.specs.PrivateTurns.{IsTurn}
 use Rattle.fdt_tree.specs.declared.walk.Step.TheVariants.{Left}
 use Rattle.fdt_tree.specs.declared.walk.Turn.{Turn}
 use Rattle.fdt_tree.proofs.Walking.{sibling-next, parent-next, end-next}

@@ -1,6 +1,6 @@
 use Rattle.std.proofs.Common.{Some}
 use Rattle.fdt_nodes.specs.Held.{node_of}
-use Rattle.passthrough_dtb.specs.Facts.{AreFacts}
+use Rattle.passthrough_dtb.specs.PrivateFacts.{AreFacts}
 use Rattle.passthrough_dtb.proofs.KnownNodes.{one_known}
 use Rattle.passthrough_dtb.proofs.facts.facts_once.Goals as goal
 

@@ -3,7 +3,7 @@ use Rattle.std.specs.Prelude.{Option}
 use Rattle.std.specs.Option.{option_map_or}
 use Rattle.fdt_tree.specs.Tree.{Bytes}
 use Rattle.passthrough_dtb.specs.Interrupts.{interrupts_in}
-use Rattle.passthrough_dtb.specs.Tables.{Tells, IsTable}
+use Rattle.passthrough_dtb.specs.PrivateTables.{Tells, IsTable}
 use Rattle.passthrough_dtb.proofs.KnownNodes.{one_known}
 use Rattle.passthrough_dtb.proofs.interrupts.read_once.Goals as goal
 

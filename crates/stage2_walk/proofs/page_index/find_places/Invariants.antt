@@ -1,5 +1,5 @@
 use Rattle.std.proofs.Common.{◌≡◌, ℕ, false, ◌<◌}
-use Rattle.stage2_walk.specs.PlaceMaps.{ArePlaces}
+use Rattle.stage2_walk.specs.PrivatePlaceMaps.{ArePlaces}
 use Rattle.stage2_walk.proofs.ReadLemmas.{stands_before}
 use Rattle.stage2_walk.proofs.page_index.find_places.Given as goal
 

@@ -1,5 +1,5 @@
 use Rattle.std.proofs.Common.{◌≡◌, ◌++◌, map}
-use Rattle.stage2_walk.specs.PlaceMaps.{entry_of}
+use Rattle.stage2_walk.specs.PrivatePlaceMaps.{entry_of}
 use Rattle.stage2_walk.proofs.page_index.list_places.Given as goal
 
 abbrev pub invariant-loop-frame : goal.invariant-loop-frame

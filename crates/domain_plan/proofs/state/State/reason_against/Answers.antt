@@ -3,7 +3,7 @@ use Rattle.std.proofs.lemmas.Result.{IfOk-weaker}
 use Rattle.dl_base.specs.declared.why.Why.{Why}
 use Rattle.domain_plan.specs.Taken.{Passed}
 use Rattle.domain_plan.specs.Reasons.{partial_unread}
-use Rattle.domain_plan.specs.Standing.{mine_of, naming_reasons, landing_reasons}
+use Rattle.domain_plan.specs.PrivateStanding.{mine_of, naming_reasons, landing_reasons}
 use Rattle.domain_plan.proofs.ReasonLemmas.{landing, filling, load_reasons, module_reasons, static_reasons, claiming, range_reasons, shared_reasons, irq_reasons_are, first_some, first_none}
 use Rattle.domain_plan.proofs.state.State.reason_against.Goals as goal
 

@@ -7,7 +7,7 @@ use Rattle.dl_base.specs.declared.why.Why.TheVariants as whys
 use Rattle.frame_ranges.specs.Ranges.{lie_in, have_common}
 use Rattle.domain_plan.specs.Taken.{what_of}
 use Rattle.domain_plan.specs.Reasons.{naming_first, layout_pages}
-use Rattle.domain_plan.specs.Standing.{claims_taken, pages_taken, overlap_in, is_region}
+use Rattle.domain_plan.specs.PrivateStanding.{claims_taken, pages_taken, overlap_in, is_region}
 use Rattle.domain_plan.proofs.RegionLemmas.{lands_last}
 use Rattle.domain_plan.proofs.state.State.region_lands.Goals as goal
 

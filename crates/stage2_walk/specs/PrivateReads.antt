@@ -1,5 +1,5 @@
 -- For private contracts and proofs: what a reader of tables keeps while it goes on.
-use Rattle.std.specs.Prelude.{◌≡◌, ◌≢◌, ℕ, ◌+◌, ◌/◌, ◌^◌, ◌<◌, ◌≤◌, ◌==◌, ◌&&◌, false, Bool, if◌then◌else◌, List, [], ◌∷◌, Some, None, IsSome, Ok, Err}
+use Rattle.std.specs.Prelude.{◌≡◌, ◌≢◌, ℕ, ◌+◌, ◌/◌, ◌^◌, ◌<◌, ◌≤◌, false, if◌then◌else◌, List, [], ◌∷◌, Some, None, IsSome, Ok, Err}
 use Rattle.dl_base.specs.Consecutive.{is_in}
 use Rattle.stage2_walk.specs.Pages.{Page, page_of}
 use Rattle.stage2_walk.specs.Walks.{walk}
@@ -21,22 +21,6 @@ TearsAt pages meetings tear = (reached : List ℕ) → meet_all pages reached me
 abbrev pub AreHeld : List Page → List ℕ → Type 0
 AreHeld pages [] = Unit {0}
 AreHeld pages (frame ∷ frames) = IsSome (page_of pages frame) × (is_in frames frame ≡ false) × AreHeld pages frames
-
--- a leaf runs on where a run ends: in page, frame and attributes
-abbrev pub runs_on : Run → Run → Bool
-runs_on run leaf = (run.page + run.count == leaf.page) && (run.first + run.count == leaf.first) && (run.attr == leaf.attr)
-
--- a last run with a leaf behind it: one longer run where the leaf runs on
-abbrev pub join : Run → Run → List Run
-join run leaf =
-    if runs_on run leaf then record { page = run.page; first = run.first; count = run.count + leaf.count; attr = run.attr } ∷ []
-    else run ∷ leaf ∷ []
-
--- runs with a leaf behind them
-abbrev pub with_leaf : List Run → Run → List Run
-with_leaf [] leaf = leaf ∷ []
-with_leaf (run ∷ []) leaf = join run leaf
-with_leaf (run ∷ next ∷ runs) leaf = run ∷ with_leaf (next ∷ runs) leaf
 
 -- no page from a first one up to a next one is mapped
 abbrev pub IsGap : PageMap → ℕ → ℕ → Type 0

@@ -7,12 +7,12 @@ use Rattle.domain_plan.specs.declared.described.Guest.{Guest}
 use Rattle.domain_plan.specs.declared.giving.Given.{Given}
 use Rattle.dl_base.specs.declared.item.Described.{Described}
 use Rattle.dl_base.specs.Sound.{IsSound}
-use Rattle.domain_plan.specs.Laying.{total, AreLowFrames, AreApart, AreLowRanges}
+use Rattle.domain_plan.specs.PrivateLaying.{total, AreLowFrames, AreApart, AreLowRanges}
 use Rattle.domain_plan.specs.Entries.{of_guest, is_read, items_of}
 use Rattle.domain_plan.specs.Taken.{Passed, all_passed}
 use Rattle.domain_plan.specs.GuestMaps.{guest_ranges}
 use Rattle.domain_plan.specs.Plans.{said_by, static_memory, region_of, port_of}
-use Rattle.domain_plan.specs.Standing.{Stands}
+use Rattle.domain_plan.specs.PrivateStanding.{Stands}
 
 -- an interrupt
 abbrev pub irq_of : What → List ℕ
