@@ -18,4 +18,5 @@ pub mod Standing
 pub mod Walking
 pub mod VisitLemmas
 pub mod PhandleLemmas
+pub mod Reached
 pub mod WholeLemmas

@@ -381,7 +381,7 @@ node_below d nodes slots l (j ∷ p) k n u h e =
     (m.0, m.1, m.2 ∙ place)
 
 -- Every place of the tree has its number.
-placed : (d : Document) (nodes : List Node) (slots : List Slot) → IsLinked d nodes slots → (p : Place) (u : Tree) → at d.tree p ≡ Some u → (m : ℕ) × (m < length d.places) × (place_of d m ≡ p)
+pub placed : (d : Document) (nodes : List Node) (slots : List Slot) → IsLinked d nodes slots → (p : Place) (u : Tree) → at d.tree p ≡ Some u → (m : ℕ) × (m < length d.places) × (place_of d m ≡ p)
 placed d nodes slots l [] u e = (0, omega (arith, l.some, l.numbered), l.root)
 placed d nodes slots l (k ∷ p) u e =
     let m = node_below d nodes slots l p k 0 u l.some (ap (λ (q : Place). at d.tree (q ++ k ∷ p)) l.root ∙ e) in
