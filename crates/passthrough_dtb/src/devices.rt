@@ -131,7 +131,7 @@ pub(crate) fn add_devices(
     requires gic { gic ≡ gic_phandle host.now.tree }
     ensures { OnOk result (items.new ≡ items.old ++ map (device_item host.now.tree guest) (map (device_of partial.now) devices.now)) }
 {
-    let mut known = BTreeMap::new(alloc);
+    let mut known = Known::new(alloc);
     for device in devices {
         let item = device_item(alloc, partial, host, gic, guest, device, &mut known)?;
         items.push(item)?;
