@@ -24,6 +24,7 @@ pub record Drawn : Type 0 where
   pub frames : List FrameRange
   pub left : List ℕ
 
+-- one step and then the next, which takes what the first gives: how the lines of `do` below go on
 infixl 10 ◌>>=◌
 abbrev pub ◌>>=◌ : {A B : Type 0} → Option A → (A → Option B) → Option B
 None >>= f = None

@@ -5,3 +5,4 @@ pub mod Lists
 pub mod Noted
 pub mod Soundness
 pub mod KnownNodes
+pub mod CountLemmas

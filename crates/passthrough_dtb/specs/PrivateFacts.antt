@@ -1,5 +1,5 @@
 -- For proofs and private contracts alone: what the code keeps of the host's nodes.
-use Rattle.std.specs.Prelude.{◌≡◌, ℕ, false, codes, Option, Some, IfSome, is_some}
+use Rattle.std.specs.Prelude.{◌≡◌, ℕ, Bool, false, codes, Option, Some, IfSome, is_some}
 use Rattle.std.specs.Option.{option_map_or}
 use Rattle.std.specs.BTreeMap.{BTreeMap, get}
 use Rattle.std.specs.Ordering.{nat_cmp}
@@ -11,6 +11,7 @@ use Rattle.fdt_nodes.specs.Values.{has}
 use Rattle.passthrough_dtb.specs.Gic.{is_on_gic}
 use Rattle.passthrough_dtb.specs.Devices.{properties_of, has_bad_interrupts}
 use Rattle.passthrough_dtb.specs.declared.facts.Facts.{Facts}
+use Rattle.passthrough_dtb.specs.declared.facts.Known.{Known}
 
 -- these are the facts of a host's node that may be missing
 pub record AreFacts (host : Tree) (found : Option Node) (facts : Facts) : Type 0 where
@@ -20,6 +21,11 @@ pub record AreFacts (host : Tree) (found : Option Node) (facts : Facts) : Type 0
   pub interrupts : facts.has_bad_interrupts ≡ has_bad_interrupts (properties_of found)
   pub gic : facts.is_on_gic ≡ option_map_or (is_on_gic host) found false
 
--- the facts that are known of each node are its own
-abbrev pub AreKnown : Document → BTreeMap ℕ Facts → Type 0
-AreKnown host known = (node : ℕ) → IfSome (get nat_cmp known node) (AreFacts host.tree (Some (node_of host node)))
+-- of each node it is known whether its interrupts go to the host's GIC
+abbrev pub AreOnGic : Document → BTreeMap ℕ Bool → Type 0
+AreOnGic host known = (node : ℕ) → IfSome (get nat_cmp known node) (λ is. is ≡ is_on_gic host.tree (node_of host node))
+
+-- what is known of each node is so
+pub record AreKnown (host : Document) (known : Known) : Type 0 where
+  pub facts : (node : ℕ) → IfSome (get nat_cmp known.facts node) (AreFacts host.tree (Some (node_of host node)))
+  pub on_gic : AreOnGic host known.on_gic

@@ -1,5 +1,5 @@
 // The first reason against a device.
-ghost use Rattle.std.specs.Prelude.{◌≡◌, ◌≤◌, ◌<◌, Option, length, not, option_map};
+ghost use Rattle.std.specs.Prelude.{◌≡◌, ◌≤◌, ◌<◌, Option, length, not, option_map, IfSome};
 ghost use Rattle.fdt_tree.specs.Tree.{Tree as Trees};
 ghost use Rattle.fdt_nodes.specs.Nodes.{Node};
 ghost use Rattle.passthrough_dtb.specs.PrivateFacts.{AreFacts};
@@ -11,7 +11,7 @@ ghost use Rattle.passthrough_dtb.specs.Devices.{is_forced, lacks_path, is_path, 
 
 use crate::facts::Facts;
 use dl_base::Why;
-use fdt_nodes::{has, own_cells, string_at};
+use fdt_nodes::{has, string_at};
 use fdt_tree::{NodeId, Tree};
 
 fn is_forced(tree: &Tree, device: NodeId) -> bool
@@ -48,11 +48,12 @@ fn has_bad_path(tree: &Tree, device: NodeId) -> bool
     has(tree, device, b"xen,path") && !is_path(string_at(tree, device, b"xen,path"))
 }
 
-fn has_bad_cells(tree: &Tree, device: NodeId) -> bool
-    requires { device < length tree.now.places }
+fn has_bad_cells(tree: &Tree, device: NodeId, cells: Option<(u32, u32)>) -> bool
+    requires device { device < length tree.now.places }
+    requires cells { (node_of tree.now device).cells ≡ cells }
     ensures { result ≡ has_bad_cells (node_of tree.now device) }
 {
-    has(tree, device, b"xen,reg") && own_cells(tree, device).is_err()
+    has(tree, device, b"xen,reg") && cells.is_none()
 }
 
 fn lacks_host(tree: &Tree, device: NodeId, facts: Facts) -> bool
@@ -86,11 +87,13 @@ fn is_no_list(cells: (u32, u32), value: &[u8]) -> bool
     value.is_empty() || value.len() % size != 0
 }
 
-fn has_bad_reg(tree: &Tree, device: NodeId) -> bool
-    requires { device < length tree.now.places }
+fn has_bad_reg(tree: &Tree, device: NodeId, cells: Option<(u32, u32)>) -> bool
+    requires device { device < length tree.now.places }
+    requires cells { (node_of tree.now device).cells ≡ cells }
+    requires within { IfSome cells (λ counts. (1 ≤ counts.0) × (counts.0 ≤ 2) × (1 ≤ counts.1) × (counts.1 ≤ 2)) }
     ensures { result ≡ has_bad_reg (node_of tree.now device) }
 {
-    let Ok(cells) = own_cells(tree, device) else {
+    let Some(cells) = cells else {
         return false;
     };
     match tree.prop(device, b"xen,reg") {
@@ -109,11 +112,13 @@ pub(crate) fn has_bad_threes(value: Option<&[u8]>) -> bool
     }
 }
 
-fn has_bad_length(tree: &Tree, device: NodeId, facts: Facts) -> bool
+fn has_bad_length(tree: &Tree, device: NodeId, cells: Option<(u32, u32)>, facts: Facts) -> bool
     requires device { device < length tree.now.places }
+    requires cells { (node_of tree.now device).cells ≡ cells }
+    requires within { IfSome cells (λ counts. (1 ≤ counts.0) × (counts.0 ≤ 2) × (1 ≤ counts.1) × (counts.1 ≤ 2)) }
     ensures { (host : Trees) (found : Option Node) → AreFacts host found facts → result ≡ has_bad_length (node_of tree.now device) found }
 {
-    has_bad_reg(tree, device)
+    has_bad_reg(tree, device, cells)
         || has_bad_threes(tree.prop(device, b"interrupts"))
         || facts.has_bad_interrupts
 }
@@ -125,15 +130,23 @@ fn is_off_gic(tree: &Tree, device: NodeId, facts: Facts) -> bool
     has(tree, device, b"interrupts") && !facts.is_on_gic
 }
 
-/// The first reason against a device, by the facts of the host's node that it stands for.
-pub(crate) fn reason_at(tree: &Tree, device: NodeId, facts: Facts) -> Option<Why>
+/// The first reason against a device whose ranges are counted in these cells, by the facts of the host's node that it
+/// stands for.
+pub(crate) fn reason_at(
+    tree: &Tree,
+    device: NodeId,
+    cells: Option<(u32, u32)>,
+    facts: Facts,
+) -> Option<Why>
     requires device { device < length tree.now.places }
+    requires cells { (node_of tree.now device).cells ≡ cells }
+    requires within { IfSome cells (λ counts. (1 ≤ counts.0) × (counts.0 ≤ 2) × (1 ≤ counts.1) × (counts.1 ≤ 2)) }
     ensures { (host : Trees) (found : Option Node) → AreFacts host found facts → result ≡ reason_at host (node_of tree.now device) found }
 {
     if lacks_path(tree, device) {
         return Some(Why::Missing);
     }
-    if has_bad_path(tree, device) || has_bad_cells(tree, device) {
+    if has_bad_path(tree, device) || has_bad_cells(tree, device, cells) {
         return Some(Why::BadValue);
     }
     if lacks_host(tree, device, facts) {
@@ -145,7 +158,7 @@ pub(crate) fn reason_at(tree: &Tree, device: NodeId, facts: Facts) -> Option<Why
     if is_extended(tree, device, facts) {
         return Some(Why::ExtendedInterrupts);
     }
-    if has_bad_length(tree, device, facts) {
+    if has_bad_length(tree, device, cells, facts) {
         return Some(Why::BadLength);
     }
     if is_off_gic(tree, device, facts) {

@@ -3,10 +3,12 @@ ghost use Rattle.std.specs.Prelude.{◌≡◌, ◌<◌, ◌++◌, ◌∷◌, [],
 ghost use Rattle.fdt_nodes.specs.Held.{node_of, Are};
 ghost use Rattle.fdt_nodes.specs.Controllers.{gic_phandle};
 ghost use Rattle.passthrough_dtb.specs.Devices.{is_device, device_item};
+ghost use Rattle.passthrough_dtb.specs.Counts.{AreCounts};
 ghost use Rattle.passthrough_dtb.specs.PrivateFacts.{AreKnown};
 ghost use Rattle.passthrough_dtb.specs.Whole.{passed_nodes};
 ghost use Rattle.passthrough_dtb.specs.PrivateHeld.{device_of, IsDevice, AreDevices};
 
+use crate::counts::{Counts, cells_once};
 use crate::device::reason_at;
 use crate::facts::{Known, facts_once};
 use crate::hosts::host_node;
@@ -17,11 +19,13 @@ use fdt_tree::{NodeId, Tree};
 use std::alloc::{AllocError, Global};
 use std::collections::BTreeMap;
 
-/// A device of a partial tree, and the host's node that it stands for, where there is one.
+/// A device of a partial tree, the host's node that it stands for, where there is one, and the cells in which its
+/// `xen,reg` is counted, where they are good.
 #[derive(Clone, Copy, Drop)]
 pub(crate) struct Device {
     pub(crate) node: NodeId,
     pub(crate) on_host: Option<NodeId>,
+    pub(crate) cells: Option<(u32, u32)>,
 }
 
 /// The nodes below `/passthrough`, in document order.
@@ -50,15 +54,23 @@ fn add_device(
     partial: &Tree,
     node: NodeId,
     host: &PathIndex,
+    counts: &mut Counts,
     found: &mut Vec<Device>,
 ) -> Result<(), AllocError>
-    requires { node < length partial.now.places }
+    requires node { node < length partial.now.places }
+    requires counts { AreCounts partial.now counts.old }
+    ensures counts { OnOk result (AreCounts partial.now counts.new) }
     ensures devices { OnOk result (map (device_of partial.now) found.new.items ≡ map (device_of partial.now) found.old.items ++ filter is_device (node_of partial.now node ∷ [])) }
     ensures are { AreDevices partial.now host.now found.old.items → OnOk result (AreDevices partial.now host.now found.new.items) }
 {
     if is_device(partial, node) {
         let on_host: Option<NodeId> = host_node(partial, node, host);
-        found.push(Device { node, on_host })?;
+        let cells: Option<(u32, u32)> = cells_once(partial, node, counts)?;
+        found.push(Device {
+            node,
+            on_host,
+            cells,
+        })?;
     }
     Ok(())
 }
@@ -75,8 +87,9 @@ pub(crate) fn devices(
     ensures are { IfOk result (λ found. AreDevices partial.now host.now found.items) }
 {
     let mut found = Vec::new(alloc);
+    let mut counts = BTreeMap::new(alloc);
     for node in nodes.as_slice() {
-        add_device(partial, *node, host, &mut found)?;
+        add_device(partial, *node, host, &mut counts, &mut found)?;
     }
     Ok(found)
 }
@@ -98,7 +111,7 @@ fn device_item(
     ensures known { OnOk result (AreKnown host.now known.new) }
 {
     let facts = facts_once(host, gic, &device.on_host, known)?;
-    let own = reason_at(partial, device.node, facts);
+    let own = reason_at(partial, device.node, device.cells, facts);
     let path = path(alloc, partial, device.node)?;
     let item = item_in(alloc, Part::Device, guest, path.as_slice(), 0)?;
     Ok(described(item, own, What::Device))
@@ -118,7 +131,7 @@ pub(crate) fn add_devices(
     requires gic { gic ≡ gic_phandle host.now.tree }
     ensures { OnOk result (items.new ≡ items.old ++ map (device_item host.now.tree guest) (map (device_of partial.now) devices.now)) }
 {
-    let mut known = BTreeMap::new(alloc);
+    let mut known = Known::new(alloc);
     for device in devices {
         let item = device_item(alloc, partial, host, gic, guest, device, &mut known)?;
         items.push(item)?;

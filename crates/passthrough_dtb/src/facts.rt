@@ -1,15 +1,16 @@
 // What a host's node says to the devices that stand for it.
-ghost use Rattle.std.specs.Prelude.{◌≡◌, ◌<◌, Some, None, length, option_map, IfOk, OnOk};
+ghost use Rattle.std.specs.Prelude.{◌≡◌, ◌<◌, Some, length, option_map, IfOk, OnOk};
 ghost use Rattle.std.specs.Option.{ForSome};
 ghost use Rattle.fdt_nodes.specs.Controllers.{gic_phandle};
 ghost use Rattle.fdt_nodes.specs.Held.{node_of};
-ghost use Rattle.passthrough_dtb.specs.PrivateFacts.{AreFacts, AreKnown};
+ghost use Rattle.passthrough_dtb.specs.PrivateFacts.{AreFacts, AreKnown, AreOnGic};
+ghost use Rattle.fdt_tree.specs.Document.{Document};
 
 use crate::device::has_bad_threes;
 use crate::gic::is_on_gic;
 use fdt_nodes::has;
 use fdt_tree::{NodeId, Tree};
-use std::alloc::AllocError;
+use std::alloc::{AllocError, Global};
 use std::collections::BTreeMap;
 
 /// What a host's node says to a device that stands for it.
@@ -36,22 +37,46 @@ const NO_NODE: Facts = Facts {
     is_on_gic: false,
 };
 
-/// The facts of nodes that were read.
-pub(crate) type Known = BTreeMap<NodeId, Facts>;
+/// What is known of the host's nodes.
+#[derive(Drop)]
+pub(crate) struct Known {
+    facts: BTreeMap<NodeId, Facts>,
+    // Whether a node's interrupts go to the host's GIC.
+    on_gic: BTreeMap<NodeId, bool>,
+}
+
+impl Known {
+    /// Nothing. Takes no memory.
+    pub(crate) fn new(alloc: Global) -> Known
+        ensures { (host : Document) → AreKnown host result }
+    {
+        Known {
+            facts: BTreeMap::new(alloc),
+            on_gic: BTreeMap::new(alloc),
+        }
+    }
+}
 
 /// Reads the facts of a node, where `gic` is the phandle of the host's GIC.
-fn facts_of(host: &Tree, gic: Option<u32>, node: NodeId) -> Facts
+fn facts_of(
+    host: &Tree,
+    gic: Option<u32>,
+    node: NodeId,
+    on_gic: &mut BTreeMap<NodeId, bool>,
+) -> Result<Facts, AllocError>
     requires live { node < length host.now.places }
     requires gic { gic ≡ gic_phandle host.now.tree }
-    ensures { AreFacts host.now.tree (Some (node_of host.now node)) result }
+    requires on_gic { AreOnGic host.now on_gic.old }
+    ensures facts { IfOk result (λ facts. AreFacts host.now.tree (Some (node_of host.now node)) facts) }
+    ensures on_gic { OnOk result (AreOnGic host.now on_gic.new) }
 {
-    Facts {
+    Ok(Facts {
         is_there: true,
         has_iommus: has(host, node, b"iommus"),
         is_extended: has(host, node, b"interrupts-extended"),
         has_bad_interrupts: has_bad_threes(host.prop(node, b"interrupts")),
-        is_on_gic: is_on_gic(host, gic, node),
-    }
+        is_on_gic: is_on_gic(host, gic, node, on_gic)?,
+    })
 }
 
 /// The facts of the host's node that a device stands for. They are read once, however many devices name the node.
@@ -70,10 +95,10 @@ pub(crate) fn facts_once(
     let Some(node) = *found else {
         return Ok(NO_NODE);
     };
-    if let Some(facts) = known.get(&node) {
+    if let Some(facts) = known.facts.get(&node) {
         return Ok(*facts);
     }
-    let facts = facts_of(host, gic, node);
-    known.insert(node, facts)?;
+    let facts = facts_of(host, gic, node, &mut known.on_gic)?;
+    known.facts.insert(node, facts)?;
     Ok(facts)
 }

@@ -1,6 +1,7 @@
 //! The devices that a guest is given, as its partial device tree describes them.
 #![tactic(auto)]
 
+mod counts;
 mod device;
 mod devices;
 mod facts;

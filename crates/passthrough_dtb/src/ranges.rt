@@ -1,5 +1,5 @@
 // The ranges of host addresses that devices have.
-ghost use Rattle.std.specs.Prelude.{◌≡◌, ◌≤◌, ◌<◌, ◌++◌, [], ℕ, List, length, map, flat_map, OnOk, IfOk};
+ghost use Rattle.std.specs.Prelude.{◌≡◌, ◌≤◌, ◌<◌, ◌++◌, [], ℕ, List, length, map, flat_map, OnOk, IfOk, IfSome};
 ghost use Rattle.dl_base.specs.declared.item.Part.TheVariants as parts;
 ghost use Rattle.fdt_tree.specs.Tree.{Bytes};
 ghost use Rattle.fdt_nodes.specs.declared.entries.Window.{Window as Range};
@@ -15,7 +15,7 @@ use crate::seen::Ranges;
 use dl_base::{
     Described, Item, List, Part, What, Why, described, is_not_page, is_too_high, is_too_large,
 };
-use fdt_nodes::{EntriesFault, Window, device_windows, own_cells, path, with_index};
+use fdt_nodes::{EntriesFault, Window, device_windows, path, with_index};
 use fdt_tree::{NodeId, Tree};
 use std::alloc::{AllocError, Global};
 
@@ -73,12 +73,19 @@ fn whole_ranges(alloc: Global, cells: (u32, u32), value: &[u8]) -> Result<List<W
     }
 }
 
-/// The ranges of a device.
-fn ranges_in(alloc: Global, partial: &Tree, device: NodeId) -> Result<List<Window>, AllocError>
-    requires { device < length partial.now.places }
+/// The ranges of a device, which are counted in these cells.
+fn ranges_in(
+    alloc: Global,
+    partial: &Tree,
+    device: NodeId,
+    cells: Option<(u32, u32)>,
+) -> Result<List<Window>, AllocError>
+    requires device { device < length partial.now.places }
+    requires cells { (node_of partial.now device).cells ≡ cells }
+    requires within { IfSome cells (λ counts. (1 ≤ counts.0) × (counts.0 ≤ 2) × (1 ≤ counts.1) × (counts.1 ≤ 2)) }
     ensures { IfOk result (λ ranges. ranges ≡ ranges_in (node_of partial.now device)) }
 {
-    let Ok(cells) = own_cells(partial, device) else {
+    let Some(cells) = cells else {
         return Ok(List::new(alloc));
     };
     match partial.prop(device, b"xen,reg") {
@@ -112,17 +119,19 @@ fn add_ranges_at(
     alloc: Global,
     partial: &Tree,
     guest: u32,
-    device: NodeId,
+    device: &Device,
     before: &mut Ranges,
     items: &mut List<Described>,
 ) -> Result<(), AllocError>
-    requires { device < length partial.now.places }
-    ensures items { OnOk result (items.new ≡ items.old ++ ranges_after before.old (entries_of guest (node_of partial.now device))) }
-    ensures before { OnOk result (before.new ≡ ranges_before before.old (entries_of guest (node_of partial.now device))) }
+    requires live { device.now.node < length partial.now.places }
+    requires cells { (device_of partial.now device.now).cells ≡ device.now.cells }
+    requires within { IfSome device.now.cells (λ counts. (1 ≤ counts.0) × (counts.0 ≤ 2) × (1 ≤ counts.1) × (counts.1 ≤ 2)) }
+    ensures items { OnOk result (items.new ≡ items.old ++ ranges_after before.old (entries_of guest (device_of partial.now device.now))) }
+    ensures before { OnOk result (before.new ≡ ranges_before before.old (entries_of guest (device_of partial.now device.now))) }
 {
-    let path = path(alloc, partial, device)?;
+    let path = path(alloc, partial, device.node)?;
     let first = item_in(alloc, Part::Range, guest, path.as_slice(), 0)?;
-    let ranges = ranges_in(alloc, partial, device)?;
+    let ranges = ranges_in(alloc, partial, device.node, device.cells)?;
     add_ranges_of(alloc, &first, ranges.as_slice(), before, items)
 }
 
@@ -140,7 +149,7 @@ pub(crate) fn add_ranges(
 {
     let mut before = Ranges::new(alloc);
     for device in devices {
-        add_ranges_at(alloc, partial, guest, device.node, &mut before, items)?;
+        add_ranges_at(alloc, partial, guest, device, &mut before, items)?;
     }
     Ok(())
 }

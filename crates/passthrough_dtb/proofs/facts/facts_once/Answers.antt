@@ -5,6 +5,8 @@ use Rattle.passthrough_dtb.proofs.KnownNodes.{one_known}
 use Rattle.passthrough_dtb.proofs.facts.facts_once.Goals as goal
 
 pub returns-clause-known : goal.returns-clause-known
-returns-clause-known c =
-    one_known (λ node facts. AreFacts c.args.host.now.tree (Some (node_of c.args.host.now node)) facts) c.args.known.now c.insert.new.self c.in-Some.node c.facts_of-facts.result c.requires.known
-    c.in_ok-insert.ensures.updates c.facts_of-facts.ensures
+returns-clause-known c = record {
+  facts = one_known (λ node facts. AreFacts c.args.host.now.tree (Some (node_of c.args.host.now node)) facts) c.args.known.now.facts c.insert.new.self c.in-Some.node c.in_ok-facts.facts c.requires.known.facts
+      c.in_ok-insert.ensures.updates c.in_ok-facts.ensures.facts;
+  on_gic = c.in_ok-facts.ensures.on_gic;
+}
