@@ -5,7 +5,7 @@ use Rattle.fdt_tree.specs.Document.{Document, place_of, parent_place, properties
 use Rattle.fdt_tree.specs.Values.{cells_of}
 use Rattle.fdt_nodes.specs.Nodes.{properties_at}
 use Rattle.fdt_nodes.specs.Held.{node_of}
-use Rattle.passthrough_dtb.specs.Counts.{AreCells}
+use Rattle.passthrough_dtb.specs.PrivateCounts.{AreCells}
 
 -- the node above says them
 pub said_above : (document : Document) (node above : ℕ) → Some (place_of document above) ≡ parent_place (place_of document node) → cells_of (properties_of document above) ≡ (node_of document node).cells

@@ -1,7 +1,7 @@
 // The cells in which the ranges of devices are counted.
 ghost use Rattle.std.specs.Prelude.{◌≡◌, ◌<◌, ◌≤◌, length, IfOk, IfSome, OnOk};
 ghost use Rattle.fdt_nodes.specs.Held.{node_of};
-ghost use Rattle.passthrough_dtb.specs.Counts.{AreCounts};
+ghost use Rattle.passthrough_dtb.specs.PrivateCounts.{AreCounts};
 
 use fdt_nodes::own_cells;
 use fdt_tree::{NodeId, Tree};

@@ -3,7 +3,7 @@ ghost use Rattle.std.specs.Prelude.{◌≡◌, ◌<◌, ◌++◌, ◌∷◌, [],
 ghost use Rattle.fdt_nodes.specs.Held.{node_of, Are};
 ghost use Rattle.fdt_nodes.specs.Controllers.{gic_phandle};
 ghost use Rattle.passthrough_dtb.specs.Devices.{is_device, device_item};
-ghost use Rattle.passthrough_dtb.specs.Counts.{AreCounts};
+ghost use Rattle.passthrough_dtb.specs.PrivateCounts.{AreCounts};
 ghost use Rattle.passthrough_dtb.specs.PrivateFacts.{AreKnown};
 ghost use Rattle.passthrough_dtb.specs.Whole.{passed_nodes};
 ghost use Rattle.passthrough_dtb.specs.PrivateHeld.{device_of, IsDevice, AreDevices};

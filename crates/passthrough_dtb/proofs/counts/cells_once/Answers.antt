@@ -1,5 +1,5 @@
 use Rattle.std.proofs.Common.{◌∙◌, sym}
-use Rattle.passthrough_dtb.specs.Counts.{AreCells}
+use Rattle.passthrough_dtb.specs.PrivateCounts.{AreCells}
 use Rattle.passthrough_dtb.proofs.CountLemmas.{said_above, kept}
 use Rattle.passthrough_dtb.proofs.KnownNodes.{one_known}
 use Rattle.passthrough_dtb.proofs.counts.cells_once.Goals as goal
