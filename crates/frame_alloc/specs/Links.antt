@@ -8,12 +8,14 @@ use Rattle.frame_alloc.specs.Slots.{slot_at, Cell, AreLinked, times, last_of, Ar
 -- another slot comes after a slot
 abbrev pub with_after : List Slot → Option ℕ → Option ℕ → List Slot
 with_after slots None to = slots
-with_after slots (Some i) to = set slots i (record { extent = (slot_at slots i).extent; before = (slot_at slots i).before; after = to })
+with_after slots (Some i) to =
+    set slots i (record { extent = (slot_at slots i).extent; before = (slot_at slots i).before; after = to })
 
 -- another slot comes before a slot
 abbrev pub with_before : List Slot → Option ℕ → Option ℕ → List Slot
 with_before slots None to = slots
-with_before slots (Some i) to = set slots i (record { extent = (slot_at slots i).extent; before = to; after = (slot_at slots i).after })
+with_before slots (Some i) to =
+    set slots i (record { extent = (slot_at slots i).extent; before = to; after = (slot_at slots i).after })
 
 -- two slots are linked to each other
 abbrev pub joined : List Slot → Option ℕ → Option ℕ → List Slot
@@ -73,12 +75,14 @@ pub record IsLoose (list : ExtentList) (before : Option ℕ) (i : ℕ) : Type 0 
 
 -- the slot goes to those that are not in use, and the others stay
 abbrev pub LosesSlot : ExtentList → ExtentList → ℕ → Type 0
-LosesSlot old new i = (front later unused : List Cell) (extent : Extent) → AreLists old (front ++ (i, extent) ∷ later) unused
+LosesSlot old new i =
+    (front later unused : List Cell) (extent : Extent) → AreLists old (front ++ (i, extent) ∷ later) unused
     → AreLists new (front ++ later) ((i, extent) ∷ unused)
 
 -- the slot has another extent, and all else stays
 abbrev pub ChangesSlot : ExtentList → ExtentList → ℕ → Extent → Type 0
-ChangesSlot old new i extent = (front later unused : List Cell) (other : Extent) → AreLists old (front ++ (i, other) ∷ later) unused
+ChangesSlot old new i extent =
+    (front later unused : List Cell) (other : Extent) → AreLists old (front ++ (i, other) ∷ later) unused
     → AreLists new (front ++ (i, extent) ∷ later) unused
 
 -- a slot that was not in use, or a new one, stands in neither list
@@ -87,12 +91,14 @@ FreesSlot old new i = (used unused : List Cell) → AreLists old used unused →
 
 -- a slot that stood in neither list stands after another one, or at the front, with an extent
 abbrev pub PutsSlot : ExtentList → ExtentList → Option ℕ → ℕ → Extent → Type 0
-PutsSlot old new before i extent = (front later unused : List Cell) → AreListsBut old (front ++ later) unused i → last_of None front ≡ before
+PutsSlot old new before i extent =
+    (front later unused : List Cell) → AreListsBut old (front ++ later) unused i → last_of None front ≡ before
     → AreLists new (front ++ (i, extent) ∷ later) unused
 
 -- a slot that was not in use, or a new one, stands after another one, or at the front, with an extent
 abbrev pub GainsSlot : ExtentList → ExtentList → Option ℕ → ℕ → Extent → Type 0
-GainsSlot old new before i extent = (front later unused : List Cell) → AreLists old (front ++ later) unused → last_of None front ≡ before
+GainsSlot old new before i extent =
+    (front later unused : List Cell) → AreLists old (front ++ later) unused → last_of None front ≡ before
     → AreLists new (front ++ (i, extent) ∷ later) (drop 1 unused)
 
 -- the slots and links are what they were, and so is the room

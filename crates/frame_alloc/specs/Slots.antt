@@ -23,11 +23,12 @@ walk slots zero start = []
 walk slots (suc most) None = []
 walk slots (suc most) (Some i) = (i, (slot_at slots i).extent) ∷ walk slots most (slot_at slots i).after
 
--- these slots stand one after another: each links the one before it and the one after it, and the last links what follows
+-- these slots stand one after another: each links those before and after it, and the last links what follows
 abbrev pub AreLinked : List Slot → Option ℕ → Option ℕ → List Cell → Option ℕ → Type 0
 AreLinked slots before start [] next = start ≡ next
 AreLinked slots before start (cell ∷ cells) next =
-    (start ≡ Some cell.0) × (cell.0 < length slots) × ((slot_at slots cell.0).before ≡ before) × ((slot_at slots cell.0).extent ≡ cell.1) ×
+    (start ≡ Some cell.0) × (cell.0 < length slots) ×
+    ((slot_at slots cell.0).before ≡ before) × ((slot_at slots cell.0).extent ≡ cell.1) ×
     AreLinked slots (Some cell.0) (slot_at slots cell.0).after cells next
 
 -- how often a slot stands in a list
@@ -35,7 +36,7 @@ abbrev pub times : ℕ → List Cell → ℕ
 times i [] = 0
 times i (cell ∷ cells) = (if cell.0 == i then 1 else 0) + times i cells
 
--- these are the two lists of a vector of slots: both are linked both ways, and each slot stands in exactly one of them, once
+-- the two lists of a vector of slots: both are linked both ways, and each slot stands in exactly one of them, once
 pub record AreLists (list : ExtentList) (used unused : List Cell) : Type 0 where
   pub linked : AreLinked list.slots.items None list.first used None
   pub unused_linked : AreLinked list.slots.items None list.unused unused None

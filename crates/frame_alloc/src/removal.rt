@@ -35,8 +35,8 @@ pub fn take_lowest(list: &mut ExtentList) -> Option<u64>
     }
 }
 
-/// Takes those frames away that lie among `count` frames from `first` on. It splits one extent at most, and takes a slot
-/// for that before it changes anything. After want of memory the extents are as they were.
+/// Takes those frames away that lie among `count` frames from `first` on. It splits one extent at most, and takes a
+/// slot for that before it changes anything. After want of memory the extents are as they were.
 pub fn remove_range(list: &mut ExtentList, first: u64, count: u64) -> Result<(), AllocError>
     requires whole { IsExtentList list.old }
     requires low { first + count ≤ 2 ^ 28 }
