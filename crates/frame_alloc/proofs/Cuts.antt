@@ -78,7 +78,7 @@ frames_of-cut first count (e ∷ es) =
     ∙ ap (λ xs. without first count (numbers e.first e.count) ++ xs) (frames_of-cut first count es)
     ∙ sym (without-append first count (numbers e.first e.count) (frames_of es))
 
-weaker : (es : List Extent) (low high : ℕ) → low ≤ high → AreExtentsFrom high es → AreExtentsFrom low es
+pub weaker : (es : List Extent) (low high : ℕ) → low ≤ high → AreExtentsFrom high es → AreExtentsFrom low es
 weaker [] low high le ok = tt
 weaker (e ∷ es) low high le ok = (let h : high ≤ e.first = ok.0 in omega arith, ok.1, ok.2, ok.3)
 

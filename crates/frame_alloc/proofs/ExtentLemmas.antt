@@ -1,5 +1,5 @@
 -- Extents at the end of a list: one that grows, and one that is added.
-use Rattle.std.proofs.Common.{◌≡◌, ℕ, zero, suc, ◌+◌, ◌^◌, ◌<◌, ◌≤◌, ◌⊎◌, inl, inr, List, [], ◌∷◌, ◌++◌, length, get_or, set, drop, refl, sym, ap, subst, ◌∙◌, arith, append-nil, append_assoc}
+use Rattle.std.proofs.Common.{◌≡◌, ℕ, ◌+◌, ◌^◌, ◌<◌, ◌≤◌, ◌⊎◌, inl, inr, List, [], ◌∷◌, ◌++◌, length, get_or, drop, refl, sym, ap, subst, ◌∙◌, arith, append-nil, append_assoc}
 use Rattle.std.proofs.lemmas.List.{drop_more}
 use Rattle.std.proofs.lemmas.Grind.{flat_map-append}
 use Rattle.dl_base.specs.Consecutive.{numbers}
@@ -9,53 +9,9 @@ use Rattle.frame_alloc.specs.Extents.{frames_of, end_from, AreExtentsFrom}
 use Rattle.frame_alloc.specs.declared.extents.Extent.{Extent}
 use Rattle.frame_alloc.proofs.Without.{numbers-split}
 
--- the extents end where the last one does
-pub end_from-last : (es : List Extent) (i : ℕ) (e : Extent) (s : ℕ) → i + 1 ≡ length es → e ≡ get_or es i e → end_from s es ≡ e.first + e.count
-end_from-last [] i e s at is = absurd (omega arith)
-end_from-last (x ∷ []) zero e s at is = ap (λ (y : Extent). y.first + y.count) (sym is)
-end_from-last (x ∷ []) (suc i) e s at is = absurd (omega arith)
-end_from-last (x ∷ y ∷ ys) zero e s at is = absurd (omega arith)
-end_from-last (x ∷ y ∷ ys) (suc i) e s at is = end_from-last (y ∷ ys) i e (x.first + x.count) (omega arith) is
-
--- the last extent is in bounds
-pub bound-last : (es : List Extent) (i : ℕ) (e : Extent) (start : ℕ) → AreExtentsFrom start es → i + 1 ≡ length es → e ≡ get_or es i e → e.first + e.count ≤ 2 ^ 28
-bound-last [] i e start ok at is = absurd (omega arith)
-bound-last (x ∷ []) zero e start ok at is = subst (λ (y : Extent). y.first + y.count ≤ 2 ^ 28) (sym is) ok.2
-bound-last (x ∷ []) (suc i) e start ok at is = absurd (omega arith)
-bound-last (x ∷ y ∷ ys) zero e start ok at is = absurd (omega arith)
-bound-last (x ∷ y ∷ ys) (suc i) e start ok at is = bound-last (y ∷ ys) i e (x.first + x.count + 1) ok.3 (omega arith) is
-
 -- the last extent with n more frames
 abbrev pub longer : Extent → ℕ → Extent
 longer e n = record { first = e.first; count = e.count + n }
-
-pub frames_of-longer : (es : List Extent) (i : ℕ) (e : Extent) (n : ℕ) → i + 1 ≡ length es → e ≡ get_or es i e → frames_of (set es i (longer e n)) ≡ frames_of es ++ numbers (e.first + e.count) n
-frames_of-longer [] i e n at is = absurd (omega arith)
-frames_of-longer (x ∷ []) zero e n at is =
-    append-nil (numbers e.first (e.count + n))
-    ∙ numbers-split e.first e.count n
-    ∙ ap (λ (y : Extent). numbers y.first y.count ++ numbers (e.first + e.count) n) is
-    ∙ ap (λ xs. xs ++ numbers (e.first + e.count) n) (sym (append-nil (numbers x.first x.count)))
-frames_of-longer (x ∷ []) (suc i) e n at is = absurd (omega arith)
-frames_of-longer (x ∷ y ∷ ys) zero e n at is = absurd (omega arith)
-frames_of-longer (x ∷ y ∷ ys) (suc i) e n at is =
-    ap (λ xs. numbers x.first x.count ++ xs) (frames_of-longer (y ∷ ys) i e n (omega arith) is)
-    ∙ sym (append_assoc (numbers x.first x.count) (frames_of (y ∷ ys)) (numbers (e.first + e.count) n))
-
-pub AreExtents-longer : (es : List Extent) (i : ℕ) (e : Extent) (n start : ℕ) → AreExtentsFrom start es → i + 1 ≡ length es → e ≡ get_or es i e → e.first + e.count + n ≤ 2 ^ 28 → AreExtentsFrom start (set es i (longer e n))
-AreExtents-longer [] i e n start ok at is low = absurd (omega arith)
-AreExtents-longer (x ∷ []) zero e n start ok at is low =
-    (subst (λ (y : Extent). start ≤ y.first) (sym is) ok.0, let some : 0 < e.count = subst (λ (y : Extent). 0 < y.count) (sym is) ok.1 in omega arith, omega arith, tt)
-AreExtents-longer (x ∷ []) (suc i) e n start ok at is low = absurd (omega arith)
-AreExtents-longer (x ∷ y ∷ ys) zero e n start ok at is low = absurd (omega arith)
-AreExtents-longer (x ∷ y ∷ ys) (suc i) e n start ok at is low = (ok.0, ok.1, ok.2, AreExtents-longer (y ∷ ys) i e n (x.first + x.count + 1) ok.3 (omega arith) is low)
-
-pub end_from-longer : (es : List Extent) (i : ℕ) (e : Extent) (n s : ℕ) → i + 1 ≡ length es → end_from s (set es i (longer e n)) ≡ e.first + e.count + n
-end_from-longer [] i e n s at = absurd (omega arith)
-end_from-longer (x ∷ []) zero e n s at = omega arith
-end_from-longer (x ∷ []) (suc i) e n s at = absurd (omega arith)
-end_from-longer (x ∷ y ∷ ys) zero e n s at = absurd (omega arith)
-end_from-longer (x ∷ y ∷ ys) (suc i) e n s at = end_from-longer (y ∷ ys) i e n (x.first + x.count) (omega arith)
 
 pub frames_of-push : (es : List Extent) (e : Extent) → frames_of (es ++ e ∷ []) ≡ frames_of es ++ numbers e.first e.count
 frames_of-push es e = flat_map-append (λ (extent : Extent). numbers extent.first extent.count) es (e ∷ []) ∙ ap (λ xs. frames_of es ++ xs) (append-nil (numbers e.first e.count))
@@ -72,6 +28,23 @@ AreExtents-push (x ∷ xs) e ok (inr past) some low = (ok.0, ok.1, ok.2, push_af
 pub end_from-push : (es : List Extent) (e : Extent) (s : ℕ) → end_from s (es ++ e ∷ []) ≡ e.first + e.count
 end_from-push [] e s = refl
 end_from-push (x ∷ xs) e s = end_from-push xs e (x.first + x.count)
+
+-- the last extent is in bounds
+pub bound-last : (es : List Extent) (e : Extent) (start : ℕ) → AreExtentsFrom start (es ++ e ∷ []) → e.first + e.count ≤ 2 ^ 28
+bound-last [] e start ok = ok.2
+bound-last (x ∷ xs) e start ok = bound-last xs e (x.first + x.count + 1) ok.3
+
+-- the last extent grows
+pub frames_of-longer : (es : List Extent) (e : Extent) (n : ℕ) → frames_of (es ++ longer e n ∷ []) ≡ frames_of (es ++ e ∷ []) ++ numbers (e.first + e.count) n
+frames_of-longer es e n =
+    frames_of-push es (longer e n)
+    ∙ ap (λ xs. frames_of es ++ xs) (numbers-split e.first e.count n)
+    ∙ sym (append_assoc (frames_of es) (numbers e.first e.count) (numbers (e.first + e.count) n))
+    ∙ ap (λ xs. xs ++ numbers (e.first + e.count) n) (sym (frames_of-push es e))
+
+pub AreExtents-longer : (es : List Extent) (e : Extent) (n start : ℕ) → AreExtentsFrom start (es ++ e ∷ []) → e.first + e.count + n ≤ 2 ^ 28 → AreExtentsFrom start (es ++ longer e n ∷ [])
+AreExtents-longer [] e n start ok low = (ok.0, let some : 0 < e.count = ok.1 in omega arith, omega arith, tt)
+AreExtents-longer (x ∷ xs) e n start ok low = (ok.0, ok.1, ok.2, AreExtents-longer xs e n (x.first + x.count + 1) ok.3 low)
 
 -- one turn of a loop over sorted ranges
 pub ranges-front : (ranges : List FrameRange) (i : ℕ) (d : FrameRange) (start : ℕ) → i < length ranges → AreFrameRangesFrom start (drop i ranges) →

@@ -41,3 +41,7 @@ left_of_an_empty_range = refl
 
 lowest_of_none : lowest_frame [] ≡ None
 lowest_of_none = refl
+
+all_of_eight_frames : lowest_frame (without 0 8 (numbers 0 8)) ≡ None
+unfolding without numbers
+all_of_eight_frames = refl

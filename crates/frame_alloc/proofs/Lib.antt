@@ -1,10 +1,15 @@
+pub mod Additions
 pub mod AscendingFrames
-pub mod CutSteps
+pub mod Changes
 pub mod Cuts
 pub mod ExtentLemmas
 pub mod FreeFrames
 pub mod Fronts
 pub mod GroupLemmas
 pub mod Instances
+pub mod Linking
 pub mod PairLemmas
+pub mod Removals
+pub mod Searches
+pub mod Walks
 pub mod Without

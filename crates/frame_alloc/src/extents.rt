@@ -1,9 +1,11 @@
-// Extents: runs of consecutive free frames.
-ghost use Rattle.std.specs.Prelude.{◌≡◌, ◌+◌, ◌-◌, ◌^◌, ◌<◌, ◌≤◌, ◌++◌, sum_by, IfOk, OnOk};
+// Extents: runs of consecutive free frames, and the list of those of sorted ranges.
+ghost use Rattle.std.specs.Prelude.{◌≡◌, ◌+◌, ◌-◌, ◌^◌, ◌<◌, ◌≤◌, ◌++◌, length, IfOk, OnOk};
 ghost use Rattle.dl_base.specs.Consecutive.{numbers};
 ghost use Rattle.frame_alloc.specs.Frames.{frames_in, AreFrameRanges};
 ghost use Rattle.frame_alloc.specs.Extents.{frames_of, end_from, AreExtentsFrom};
+ghost use Rattle.frame_alloc.specs.Slots.{extents_in, IsExtentList, last_used};
 
+use crate::extent_list::{ExtentList, change, insert_after};
 use dl_base::FrameRange;
 use std::alloc::{AllocError, Global};
 
@@ -29,52 +31,72 @@ impl Extent {
 }
 
 /// The extents of sorted ranges: ranges that touch become one extent, and empty ones none.
-pub fn extents_of(alloc: Global, ranges: &[FrameRange]) -> Result<Vec<Extent>, AllocError>
+pub fn extents_of(alloc: Global, ranges: &[FrameRange]) -> Result<ExtentList, AllocError>
     requires { AreFrameRanges ranges.now }
-    ensures frames { IfOk result (λ extents. frames_of extents.items ≡ frames_in ranges.now) }
-    ensures apart { IfOk result (λ extents. AreExtentsFrom 0 extents.items) }
+    ensures frames { IfOk result (λ list. frames_of (extents_in list) ≡ frames_in ranges.now) }
+    ensures whole { IfOk result (λ list. IsExtentList list) }
 {
-    let mut extents = Vec::new(alloc);
+    let mut list = ExtentList {
+        slots: Vec::new(alloc),
+        first: None,
+        unused: None,
+        unused_count: 0,
+    };
+    let mut last = None;
     for range in ranges {
-        add_range(&mut extents, *range)?;
+        last = add_range(&mut list, last, *range)?;
     }
-    Ok(extents)
+    Ok(list)
 }
 
-/// Adds the frames of a range that begins at or above the end of the extents.
-fn add_range(extents: &mut Vec<Extent>, range: FrameRange) -> Result<(), AllocError>
-    requires apart { AreExtentsFrom 0 extents.old.items }
-    requires after { end_from 0 extents.old.items ≤ range.first }
+/// Adds the frames of a range that begins at or above the end of the extents, and answers the last slot.
+fn add_range(
+    list: &mut ExtentList,
+    last: Option<usize>,
+    range: FrameRange,
+) -> Result<Option<usize>, AllocError>
+    requires whole { IsExtentList list.old }
+    requires last { last ≡ last_used list.old }
+    requires after { end_from 0 (extents_in list.old) ≤ range.first }
     requires low { range.first + range.count ≤ 2 ^ 28 }
-    ensures frames { OnOk result (frames_of extents.new.items ≡ frames_of extents.old.items ++ numbers range.first range.count) }
-    ensures apart { OnOk result (AreExtentsFrom 0 extents.new.items) }
-    ensures end { OnOk result (end_from 0 extents.new.items ≤ range.first + range.count) }
+    ensures frames { OnOk result (frames_of (extents_in list.new) ≡ frames_of (extents_in list.old) ++ numbers range.first range.count) }
+    ensures whole { OnOk result (IsExtentList list.new) }
+    ensures end { OnOk result (end_from 0 (extents_in list.new) ≤ range.first + range.count) }
+    ensures last { IfOk result (λ now. now ≡ last_used list.new) }
 {
     if range.count == 0 {
-        return Ok(());
+        return Ok(last);
     }
-    let len = extents.len();
-    if len > 0 {
-        let last = extents[len - 1];
-        if last.first + last.count == range.first {
-            extents[len - 1] = Extent {
-                first: last.first,
-                count: last.count + range.count,
+    if let Some(index) = last {
+        let extent = list.slots[index].extent;
+        if extent.first + extent.count == range.first {
+            let longer = Extent {
+                first: extent.first,
+                count: extent.count + range.count,
             };
-            return Ok(());
+            change(list, index, longer);
+            return Ok(last);
         }
     }
-    extents.push(Extent {
+    let extent = Extent {
         first: range.first,
         count: range.count,
-    })?;
-    Ok(())
+    };
+    let index = insert_after(list, last, extent)?;
+    Ok(Some(index))
 }
 
 /// How many frames there are.
-pub fn frame_count(extents: &[Extent]) -> u64
-    requires { sum_by (λ extent. extent.count) extents.now < 2 ^ 64 }
-    ensures { result ≡ sum_by (λ extent. extent.count) extents.now }
+pub fn frame_count(list: &ExtentList) -> u64
+    requires { IsExtentList list.now }
+    ensures { result ≡ length (frames_of (extents_in list.now)) }
 {
-    extents.iter().map(|extent| extent.count).sum()
+    let mut total = 0;
+    let mut at = list.first;
+    while let Some(index) = at {
+        let slot = list.slots[index];
+        total += slot.extent.count;
+        at = slot.after;
+    }
+    total
 }

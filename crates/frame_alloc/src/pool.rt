@@ -2,7 +2,8 @@
 ghost use Rattle.std.specs.Prelude.{◌≡◌, ◌+◌, ◌^◌, ◌<◌, ◌≤◌, drop, length, Some, None, IfOk, IfErr, OnOk, OnErr};
 ghost use Rattle.frame_alloc.specs.Frames.{frames_in, AreFrameRanges, AreFrames, without, lowest_frame, lowest_chunk, lowest_pair, chunk_count};
 
-use crate::extents::{Extent, extents_of, frame_count};
+use crate::extent_list::ExtentList;
+use crate::extents::{extents_of, frame_count};
 use crate::groups::{CHUNK_SIZE, PAIR_SIZE, chunks_in, lowest_group};
 use crate::removal::{remove_range, take_lowest};
 use dl_base::{FrameRange, List};
@@ -24,7 +25,7 @@ pub enum PoolFault {
 /// ascending list of them, and as `spare` how many more extents there is room for.
 #[derive(Drop)]
 pub struct FramePool {
-    extents: Vec<Extent>,
+    extents: ExtentList,
 }
 
 /// Want of memory is the fault Memory.
@@ -70,7 +71,8 @@ impl FramePool {
         ensures ok { OnOk result (extents ≤ self.new.spare) }
         ensures room { OnErr result (self.old.spare < extents) }
     {
-        self.extents.reserve(extents as usize)
+        let wanted = (extents as usize).saturating_sub(self.extents.unused_count);
+        self.extents.slots.reserve(wanted)
     }
 
     /// Takes every free frame of a range away, which ends at or below frame 2^28. Want of memory comes only where nothing
@@ -96,7 +98,7 @@ impl FramePool {
         ensures err { OnErr result (self.new ≡ self.old) }
         ensures spare { self.old.spare ≤ self.new.spare + 1 }
     {
-        let first = lowest_group(self.extents.as_slice(), CHUNK_SIZE).ok_or(PoolFault::NoChunk)?;
+        let first = lowest_group(&self.extents, CHUNK_SIZE).ok_or(PoolFault::NoChunk)?;
         remove_range(&mut self.extents, first, CHUNK_SIZE)?;
         Ok(first)
     }
@@ -112,7 +114,7 @@ impl FramePool {
         ensures err { OnErr result (self.new ≡ self.old) }
         ensures spare { self.old.spare ≤ self.new.spare + 1 }
     {
-        let first = lowest_group(self.extents.as_slice(), PAIR_SIZE).ok_or(PoolFault::NoPair)?;
+        let first = lowest_group(&self.extents, PAIR_SIZE).ok_or(PoolFault::NoPair)?;
         remove_range(&mut self.extents, first, PAIR_SIZE)?;
         Ok(first)
     }
@@ -131,13 +133,13 @@ impl FramePool {
         ensures count { result ≡ length self.now.free }
         ensures ascending { AreFrames self.now.free }
     {
-        frame_count(self.extents.as_slice())
+        frame_count(&self.extents)
     }
 
     /// How many chunks `take_chunk` could still give. Takes no memory.
     pub fn chunks(&self) -> u64
         ensures { result ≡ chunk_count self.now.free }
     {
-        chunks_in(self.extents.as_slice())
+        chunks_in(&self.extents)
     }
 }

@@ -34,3 +34,34 @@ fn single_odd_frames_have_no_pair(rt: HostRuntime) -> Result<(), Fail> {
     assert_eq!(rt; pool.free_frames(), 2);
     Ok(())
 }
+
+#[test]
+fn holes_in_every_eight_frames_leave_pairs_and_no_chunk(rt: HostRuntime) -> Result<(), Fail> {
+    let mut ranges = List::new(rt.alloc());
+    ranges.push(FrameRange {
+        first: 0,
+        count: 4096,
+    })?;
+    let mut pool = FramePool::new(rt.alloc(), &ranges)?;
+    for index in 0..512 {
+        pool.carve(FrameRange {
+            first: 8 * index + 1,
+            count: 1,
+        })?;
+    }
+    assert_eq!(rt; pool.free_frames(), 3584);
+    assert_eq!(rt; pool.chunks(), 0);
+    assert_eq!(rt; pool.take_frame(), Some(0));
+    assert_eq!(rt; pool.take_pair(), Ok(2));
+    Ok(())
+}
+
+#[test]
+fn pool_that_was_carved_whole_has_no_frame(rt: HostRuntime) -> Result<(), Fail> {
+    let mut ranges = List::new(rt.alloc());
+    ranges.push(FrameRange { first: 0, count: 8 })?;
+    let mut pool = FramePool::new(rt.alloc(), &ranges)?;
+    pool.carve(FrameRange { first: 0, count: 8 })?;
+    assert_eq!(rt; pool.take_frame(), None);
+    Ok(())
+}

@@ -1,54 +1,135 @@
-use Rattle.std.proofs.Common.{◌≡◌, ◌+◌, ◌<◌, ◌≤◌, ◌++◌, ◌-◌, ◌^◌, inl, inr, length, sym, ap, subst, ◌∙◌, arith, append-nil}
+use Rattle.std.proofs.Common.{◌≡◌, ◌<◌, ◌++◌, ◌⊎◌, inl, inr, length, Some, sym, ap, ◌∙◌, arith, append-nil}
 use Rattle.dl_base.specs.Consecutive.{numbers}
 use Rattle.dl_base.proofs.NumberLists.{numbers-zero}
-use Rattle.frame_alloc.specs.Extents.{frames_of, end_from, AreExtentsFrom}
-use Rattle.frame_alloc.proofs.ExtentLemmas.{end_from-last, bound-last, frames_of-longer, AreExtents-longer, end_from-longer, AreExtents-push, end_from-push}
+use Rattle.frame_alloc.specs.Extents.{frames_of, end_from}
+use Rattle.frame_alloc.specs.Slots.{extents_in}
+use Rattle.frame_alloc.proofs.Additions.{IsAdded, last-below, last-at, last-bound, last-is_used, after-last, grown, last-apart, last-none, pushed_on}
 use Rattle.frame_alloc.proofs.extents.add_range.Goals as goal
-use Rattle.frame_alloc.proofs.extents.add_range.Goals.{then-len-gt0+else-last-range, else-len-gt0}
+use Rattle.frame_alloc.proofs.extents.add_range.Goals.{in-Some+else-extent-range, in_default}
 
 pub returns-then-range-eq0-clause-frames : goal.returns-then-range-eq0-clause-frames
 returns-then-range-eq0-clause-frames c =
-    sym (ap (λ xs. frames_of c.args.extents.now.items ++ xs) (ap (numbers c.args.range.first) c.if-range-eq0.true ∙ numbers-zero c.args.range.first) ∙ append-nil (frames_of c.args.extents.now.items))
+    let frames = frames_of (extents_in c.args.list.now) in
+    sym (ap (λ xs. frames ++ xs) (ap (numbers c.args.range.first) c.if-range-eq0.true ∙ numbers-zero c.args.range.first) ∙ append-nil frames)
 
-pub overflow_add-last : goal.overflow_add-last
-overflow_add-last c =
-    let at : (c.len-len.result - 1) + 1 ≡ length c.args.extents.now.items = omega (arith, c.len-len.ensures, c.args.extents.now.ok.0) in
-    let low : c.index-last.result.now.first + c.index-last.result.now.count ≤ 2 ^ 28 = bound-last c.args.extents.now.items (c.len-len.result - 1) c.index-last.result.now 0 c.requires.apart at c.index-last.ensures in
-    omega arith
+pub index-requires : goal.index-requires
+index-requires c =
+    let low = last-below c.args.list.now c.args.last c.in-Some.index c.requires.whole c.requires.last c.in-Some.is in
+    omega (arith, low, c.args.list.now.slots.ok.0)
 
-pub returns-then-last-range-clause-frames : goal.returns-then-last-range-clause-frames
-returns-then-last-range-clause-frames c =
-    let at : (c.len-len.result - 1) + 1 ≡ length c.args.extents.now.items = omega (arith, c.len-len.ensures, c.args.extents.now.ok.0) in
-    frames_of-longer c.args.extents.now.items (c.len-len.result - 1) c.index-last.result.now c.args.range.count at c.index-last.ensures
-    ∙ ap (λ first. frames_of c.args.extents.now.items ++ numbers first c.args.range.count) c.if-last-range.true
+pub overflow_add-extent : goal.overflow_add-extent
+overflow_add-extent c =
+    let list = c.args.list.now in
+    let here = last-at list c.args.last c.in-Some.index c.index.result.now c.requires.whole c.requires.last c.in-Some.is c.index.ensures in
+    let bound = last-bound list c.in-Some.index c.index.result.now.extent c.requires.whole here in
+    omega (arith, bound)
 
-pub returns-then-last-range-clause-apart : goal.returns-then-last-range-clause-apart
-returns-then-last-range-clause-apart c =
-    let at : (c.len-len.result - 1) + 1 ≡ length c.args.extents.now.items = omega (arith, c.len-len.ensures, c.args.extents.now.ok.0) in
-    AreExtents-longer c.args.extents.now.items (c.len-len.result - 1) c.index-last.result.now c.args.range.count 0 c.requires.apart at c.index-last.ensures (omega arith)
+pub change-requires : goal.change-requires
+change-requires c =
+    let list = c.args.list.now in
+    let here = last-at list c.args.last c.in-Some.index c.index.result.now c.requires.whole c.requires.last c.in-Some.is c.index.ensures in
+    last-is_used list c.in-Some.index c.index.result.now.extent here
 
-pub returns-then-last-range-clause-end : goal.returns-then-last-range-clause-end
-returns-then-last-range-clause-end c =
-    let at : (c.len-len.result - 1) + 1 ≡ length c.args.extents.now.items = omega (arith, c.len-len.ensures, c.args.extents.now.ok.0) in
-    let end = end_from-longer c.args.extents.now.items (c.len-len.result - 1) c.index-last.result.now c.args.range.count 0 at in
-    omega (arith, end)
+pub returns-then-extent-range-clause-frames : goal.returns-then-extent-range-clause-frames
+returns-then-extent-range-clause-frames c =
+    let list = c.args.list.now in
+    let here = last-at list c.args.last c.in-Some.index c.index.result.now c.requires.whole c.requires.last c.in-Some.is c.index.ensures in
+    let is : IsAdded list c.change.new.list c.args.range.first c.args.range.count (Some c.in-Some.index) = grown list c.change.new.list c.args.range.first c.args.range.count c.in-Some.index c.index.result.now.extent c.requires.whole here c.if-extent-range.true c.requires.low c.change.ensures.changed in
+    is.frames
 
-pub returns-clause-apart : goal.returns-clause-apart
-returns-clause-apart c =
+pub returns-then-extent-range-clause-whole : goal.returns-then-extent-range-clause-whole
+returns-then-extent-range-clause-whole c =
+    let list = c.args.list.now in
+    let here = last-at list c.args.last c.in-Some.index c.index.result.now c.requires.whole c.requires.last c.in-Some.is c.index.ensures in
+    let is : IsAdded list c.change.new.list c.args.range.first c.args.range.count (Some c.in-Some.index) = grown list c.change.new.list c.args.range.first c.args.range.count c.in-Some.index c.index.result.now.extent c.requires.whole here c.if-extent-range.true c.requires.low c.change.ensures.changed in
+    is.whole
+
+pub returns-then-extent-range-clause-end : goal.returns-then-extent-range-clause-end
+returns-then-extent-range-clause-end c =
+    let list = c.args.list.now in
+    let here = last-at list c.args.last c.in-Some.index c.index.result.now c.requires.whole c.requires.last c.in-Some.is c.index.ensures in
+    let is : IsAdded list c.change.new.list c.args.range.first c.args.range.count (Some c.in-Some.index) = grown list c.change.new.list c.args.range.first c.args.range.count c.in-Some.index c.index.result.now.extent c.requires.whole here c.if-extent-range.true c.requires.low c.change.ensures.changed in
+    is.end
+
+pub returns-then-extent-range-clause-last : goal.returns-then-extent-range-clause-last
+returns-then-extent-range-clause-last c =
+    let list = c.args.list.now in
+    let here = last-at list c.args.last c.in-Some.index c.index.result.now c.requires.whole c.requires.last c.in-Some.is c.index.ensures in
+    let is : IsAdded list c.change.new.list c.args.range.first c.args.range.count (Some c.in-Some.index) = grown list c.change.new.list c.args.range.first c.args.range.count c.in-Some.index c.index.result.now.extent c.requires.whole here c.if-extent-range.true c.requires.low c.change.ensures.changed in
+    is.last_is
+
+pub insert_after-requires : goal.insert_after-requires
+insert_after-requires c =
+    let same : c.match-last.last ≡ c.args.last = elim c.match-last.branch [
+      | in-Some+else-extent-range w ↦ w.last-is ∙ sym w.in-Some.is
+      | in_default w ↦ w.last-is
+    ] in
+    after-last c.args.list.now c.match-last.last c.requires.whole (same ∙ c.requires.last)
+
+pub returns-clause-frames : goal.returns-clause-frames
+returns-clause-frames c =
+    let list = c.args.list.now in
+    let same : c.match-last.last ≡ c.args.last = elim c.match-last.branch [
+      | in-Some+else-extent-range w ↦ w.last-is ∙ sym w.in-Some.is
+      | in_default w ↦ w.last-is
+    ] in
+    let apart : (length (extents_in list) ≡ 0) ⊎ (end_from 0 (extents_in list) < c.args.range.first) = elim c.match-last.branch [
+      | in-Some+else-extent-range w ↦
+          (let here = last-at list c.args.last w.in-Some.index w.index.result.now c.requires.whole c.requires.last w.in-Some.is w.index.ensures in
+          inr (last-apart list c.args.range.first w.in-Some.index w.index.result.now.extent here c.requires.after w.if-extent-range.false))
+      | in_default w ↦ inl (last-none list c.args.last c.requires.last w.in_default.is)
+    ] in
     let some : 0 < c.args.range.count = let h = c.if-range-eq0.false in omega arith in
-    subst (AreExtentsFrom 0) (sym c.in_ok-push.ensures.items)
-    (AreExtents-push c.args.extents.now.items (record { first = c.args.range.first; count = c.args.range.count }) c.requires.apart
-    (elim c.if-len-gt0.branch [
-      | then-len-gt0+else-last-range w ↦
-          (let at : (c.len-len.result - 1) + 1 ≡ length c.args.extents.now.items = omega (arith, c.len-len.ensures, c.args.extents.now.ok.0, w.if-len-gt0.true) in
-          let end = end_from-last c.args.extents.now.items (c.len-len.result - 1) w.index-last.result.now 0 at w.index-last.ensures in
-          let apart = w.if-last-range.false in
-          inr (omega (arith, end, apart)))
-      | else-len-gt0 w ↦ inl (omega (arith, c.len-len.ensures, c.args.extents.now.ok.0, w.if-len-gt0.false))
-    ])
-    some c.requires.low)
+    let is : IsAdded list c.insert_after.new.list c.args.range.first c.args.range.count (Some c.in_ok-index.index) = pushed_on list c.insert_after.new.list c.args.range.first c.args.range.count c.match-last.last c.in_ok-index.index c.requires.whole (same ∙ c.requires.last) apart some c.requires.low c.in_ok-index.ensures.inserted in
+    is.frames
+
+pub returns-clause-whole : goal.returns-clause-whole
+returns-clause-whole c =
+    let list = c.args.list.now in
+    let same : c.match-last.last ≡ c.args.last = elim c.match-last.branch [
+      | in-Some+else-extent-range w ↦ w.last-is ∙ sym w.in-Some.is
+      | in_default w ↦ w.last-is
+    ] in
+    let apart : (length (extents_in list) ≡ 0) ⊎ (end_from 0 (extents_in list) < c.args.range.first) = elim c.match-last.branch [
+      | in-Some+else-extent-range w ↦
+          (let here = last-at list c.args.last w.in-Some.index w.index.result.now c.requires.whole c.requires.last w.in-Some.is w.index.ensures in
+          inr (last-apart list c.args.range.first w.in-Some.index w.index.result.now.extent here c.requires.after w.if-extent-range.false))
+      | in_default w ↦ inl (last-none list c.args.last c.requires.last w.in_default.is)
+    ] in
+    let some : 0 < c.args.range.count = let h = c.if-range-eq0.false in omega arith in
+    let is : IsAdded list c.insert_after.new.list c.args.range.first c.args.range.count (Some c.in_ok-index.index) = pushed_on list c.insert_after.new.list c.args.range.first c.args.range.count c.match-last.last c.in_ok-index.index c.requires.whole (same ∙ c.requires.last) apart some c.requires.low c.in_ok-index.ensures.inserted in
+    is.whole
 
 pub returns-clause-end : goal.returns-clause-end
 returns-clause-end c =
-    let end = ap (end_from 0) c.in_ok-push.ensures.items ∙ end_from-push c.args.extents.now.items (record { first = c.args.range.first; count = c.args.range.count }) 0 in
-    omega (arith, end)
+    let list = c.args.list.now in
+    let same : c.match-last.last ≡ c.args.last = elim c.match-last.branch [
+      | in-Some+else-extent-range w ↦ w.last-is ∙ sym w.in-Some.is
+      | in_default w ↦ w.last-is
+    ] in
+    let apart : (length (extents_in list) ≡ 0) ⊎ (end_from 0 (extents_in list) < c.args.range.first) = elim c.match-last.branch [
+      | in-Some+else-extent-range w ↦
+          (let here = last-at list c.args.last w.in-Some.index w.index.result.now c.requires.whole c.requires.last w.in-Some.is w.index.ensures in
+          inr (last-apart list c.args.range.first w.in-Some.index w.index.result.now.extent here c.requires.after w.if-extent-range.false))
+      | in_default w ↦ inl (last-none list c.args.last c.requires.last w.in_default.is)
+    ] in
+    let some : 0 < c.args.range.count = let h = c.if-range-eq0.false in omega arith in
+    let is : IsAdded list c.insert_after.new.list c.args.range.first c.args.range.count (Some c.in_ok-index.index) = pushed_on list c.insert_after.new.list c.args.range.first c.args.range.count c.match-last.last c.in_ok-index.index c.requires.whole (same ∙ c.requires.last) apart some c.requires.low c.in_ok-index.ensures.inserted in
+    is.end
+
+pub returns-clause-last : goal.returns-clause-last
+returns-clause-last c =
+    let list = c.args.list.now in
+    let same : c.match-last.last ≡ c.args.last = elim c.match-last.branch [
+      | in-Some+else-extent-range w ↦ w.last-is ∙ sym w.in-Some.is
+      | in_default w ↦ w.last-is
+    ] in
+    let apart : (length (extents_in list) ≡ 0) ⊎ (end_from 0 (extents_in list) < c.args.range.first) = elim c.match-last.branch [
+      | in-Some+else-extent-range w ↦
+          (let here = last-at list c.args.last w.in-Some.index w.index.result.now c.requires.whole c.requires.last w.in-Some.is w.index.ensures in
+          inr (last-apart list c.args.range.first w.in-Some.index w.index.result.now.extent here c.requires.after w.if-extent-range.false))
+      | in_default w ↦ inl (last-none list c.args.last c.requires.last w.in_default.is)
+    ] in
+    let some : 0 < c.args.range.count = let h = c.if-range-eq0.false in omega arith in
+    let is : IsAdded list c.insert_after.new.list c.args.range.first c.args.range.count (Some c.in_ok-index.index) = pushed_on list c.insert_after.new.list c.args.range.first c.args.range.count c.match-last.last c.in_ok-index.index c.requires.whole (same ∙ c.requires.last) apart some c.requires.low c.in_ok-index.ensures.inserted in
+    is.last_is

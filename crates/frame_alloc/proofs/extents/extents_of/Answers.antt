@@ -3,6 +3,7 @@ use Rattle.dl_base.specs.Consecutive.{numbers}
 use Rattle.dl_base.specs.declared.ranges.FrameRange.{FrameRange}
 use Rattle.frame_alloc.specs.Frames.{frames_in}
 use Rattle.frame_alloc.specs.Extents.{frames_of, end_from}
+use Rattle.frame_alloc.specs.Slots.{extents_in}
 use Rattle.frame_alloc.proofs.ExtentLemmas.{ranges-front, frames_in-front, AreFrameRanges-weaker}
 use Rattle.frame_alloc.proofs.extents.extents_of.Goals as goal
 
@@ -12,14 +13,15 @@ loop-range-preserved c =
     let ranges = c.args.ranges.now in
     let i = c.loop-range.range-index in
     let rest : List ℕ = frames_in (drop (i + 1) ranges) in
-    let before = c.loop-range.extents.items in
+    let before = extents_in c.loop-range.list in
     let front = ranges-front ranges i d (end_from 0 before) c.loop-range-test.true c.loop-range.invariant.after in
     record {
       frames =
-          ap (λ xs. xs ++ rest) c.in_ok-add_range.ensures.frames
+          ap (λ xs. xs ++ rest) c.in_ok-last.ensures.frames
           ∙ append_assoc (frames_of before) (numbers (get_or ranges i d).first (get_or ranges i d).count) rest
           ∙ ap (λ xs. frames_of before ++ xs) (sym (frames_in-front ranges i d c.loop-range-test.true))
           ∙ c.loop-range.invariant.frames;
-      apart = c.in_ok-add_range.ensures.apart;
-      after = AreFrameRanges-weaker (drop (i + 1) ranges) _ _ c.in_ok-add_range.ensures.end front.2;
+      whole = c.in_ok-last.ensures.whole;
+      last = c.in_ok-last.ensures.last;
+      after = AreFrameRanges-weaker (drop (i + 1) ranges) _ _ c.in_ok-last.ensures.end front.2;
     }

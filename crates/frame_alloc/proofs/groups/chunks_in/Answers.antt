@@ -1,37 +1,40 @@
-use Rattle.std.proofs.Common.{◌≡◌, ◌+◌, ◌<◌, ◌^◌, get_or, drop, ap, sym, subst, ◌∙◌, arith}
-use Rattle.std.proofs.lemmas.List.{drop_more, drop_all}
-use Rattle.std.proofs.lemmas.List.Sums.{sum_by-cons}
-use Rattle.std.specs.List.{sum_by}
-use Rattle.frame_alloc.specs.Extents.{AreExtentsFrom}
-use Rattle.frame_alloc.specs.declared.extents.Extent.{Extent}
-use Rattle.frame_alloc.proofs.Cuts.{AreExtents-cons}
+use Rattle.std.proofs.Common.{sym, ◌∙◌, subst, arith}
+use Rattle.frame_alloc.specs.Slots.{extents_in}
 use Rattle.frame_alloc.proofs.GroupLemmas.{chunks_of, chunks-bound, chunk_count-extents}
+use Rattle.frame_alloc.proofs.Walks.{IsSummedTo, sum-begins, sum-below, sum-turn, sum-ends}
 use Rattle.frame_alloc.proofs.groups.chunks_in.Goals as goal
+
+pub loop-at-init : goal.loop-at-init
+loop-at-init c = sum-begins chunks_of c.args.list.now c.requires
+
+pub index-slot-requires : goal.index-slot-requires
+index-slot-requires c =
+    let low = sum-below chunks_of c.args.list.now c.loop-at.at c.loop-at.total c.in-Some.index c.loop-at.invariant c.in-Some.is in
+    omega (arith, low, c.args.list.now.slots.ok.0)
+
+pub overflow_add-end : goal.overflow_add-end
+overflow_add-end c =
+    let turn = sum-turn chunks_of c.args.list.now c.loop-at.at c.loop-at.total c.in-Some.index c.index-slot.result.now c.loop-at.invariant c.in-Some.is c.index-slot.ensures in
+    let bound = turn.extent.2 in
+    omega (arith, bound)
 
 pub overflow_add-total : goal.overflow_add-total
 overflow_add-total c =
-    let d : Extent = record { first = 0; count = 0 } in
-    let es = c.args.extents.now in
-    let i = c.loop-extent.extent-index in
-    let step : sum_by chunks_of (drop i es) ≡ chunks_of (get_or es i d) + sum_by chunks_of (drop (i + 1) es) = ap (sum_by chunks_of) (drop_more es i d c.loop-extent-test.true) ∙ sum_by-cons chunks_of (get_or es i d) (drop (i + 1) es) in
-    let all : sum_by chunks_of es < 2 ^ 64 = chunks-bound es c.requires in
-    omega (arith, c.loop-extent.invariant.counted, c.saturating_sub-total.ensures, c.div_ceil.ensures)
+    let turn = sum-turn chunks_of c.args.list.now c.loop-at.at c.loop-at.total c.in-Some.index c.index-slot.result.now c.loop-at.invariant c.in-Some.is c.index-slot.ensures in
+    let all = chunks-bound (extents_in c.args.list.now) c.requires.apart in
+    let low = turn.low in
+    omega (arith, all, low, c.saturating_sub-total.ensures, c.div_ceil.ensures)
 
-pub loop-extent-preserved : goal.loop-extent-preserved
-loop-extent-preserved c =
-    let d : Extent = record { first = 0; count = 0 } in
-    let es = c.args.extents.now in
-    let i = c.loop-extent.extent-index in
-    let step : sum_by chunks_of (drop i es) ≡ chunks_of (get_or es i d) + sum_by chunks_of (drop (i + 1) es) = ap (sum_by chunks_of) (drop_more es i d c.loop-extent-test.true) ∙ sum_by-cons chunks_of (get_or es i d) (drop (i + 1) es) in
-    record {
-      counted = omega (arith, c.loop-extent.invariant.counted, c.saturating_sub-total.ensures, c.div_ceil.ensures);
-      apart = AreExtents-cons (get_or es i d) (drop (i + 1) es) 0 (subst (AreExtentsFrom 0) (drop_more es i d c.loop-extent-test.true) c.loop-extent.invariant.apart);
-    }
+pub loop-at-preserved : goal.loop-at-preserved
+loop-at-preserved c =
+    let turn = sum-turn chunks_of c.args.list.now c.loop-at.at c.loop-at.total c.in-Some.index c.index-slot.result.now c.loop-at.invariant c.in-Some.is c.index-slot.ensures in
+    subst (λ n. IsSummedTo chunks_of c.args.list.now c.index-slot.result.now.after n) (omega (arith, c.saturating_sub-total.ensures, c.div_ceil.ensures)) turn.next
+
+pub loop-at-smaller : goal.loop-at-smaller
+loop-at-smaller c =
+    let turn = sum-turn chunks_of c.args.list.now c.loop-at.at c.loop-at.total c.in-Some.index c.index-slot.result.now c.loop-at.invariant c.in-Some.is c.index-slot.ensures in
+    turn.less
 
 pub returns : goal.returns
 returns c =
-    let es = c.args.extents.now in
-    let i = c.loop-extent.extent-index in
-    let none : sum_by chunks_of (drop i es) ≡ 0 = ap (sum_by chunks_of) (drop_all i es c.loop-extent-test.false) in
-    let all : c.loop-extent.total ≡ sum_by chunks_of es = omega (arith, c.loop-extent.invariant.counted) in
-    all ∙ sym (chunk_count-extents es c.requires)
+    sum-ends chunks_of c.args.list.now c.loop-at.at c.loop-at.total c.loop-at.invariant c.in_default.is ∙ sym (chunk_count-extents (extents_in c.args.list.now) c.requires.apart)

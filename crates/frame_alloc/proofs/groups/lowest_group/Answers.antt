@@ -1,29 +1,59 @@
-use Rattle.std.proofs.Common.{◌+◌, get_or, drop, sym, subst}
-use Rattle.std.proofs.lemmas.List.{drop_more}
-use Rattle.frame_alloc.specs.Extents.{frames_of}
-use Rattle.frame_alloc.specs.declared.extents.Extent.{Extent}
-use Rattle.frame_alloc.proofs.GroupLemmas.{IsSearchedTo, searched_none, searched_found, searched_past}
+use Rattle.std.proofs.Common.{sym, arith}
+use Rattle.frame_alloc.proofs.Searches.{search-begins, search-below, search-turn, search-ends}
 use Rattle.frame_alloc.proofs.groups.lowest_group.Goals as goal
 
-pub loop-extent-init : goal.loop-extent-init
-loop-extent-init c = searched_none c.args.size c.args.extents.now c.requires.apart
+pub loop-at-init : goal.loop-at-init
+loop-at-init c = search-begins c.args.size c.args.list.now c.requires.whole
 
-pub loop-extent-preserved : goal.loop-extent-preserved
-loop-extent-preserved c =
-    let d : Extent = record { first = 0; count = 0 } in
-    let es = c.args.extents.now in
-    let i = c.loop-extent.extent-index in
+pub index-slot-requires : goal.index-slot-requires
+index-slot-requires c =
+    let low = search-below c.args.size c.args.list.now c.loop-at.at c.in-Some.index c.loop-at.invariant c.in-Some.is in
+    omega (arith, low, c.args.list.now.slots.ok.0)
+
+pub loop-at-preserved : goal.loop-at-preserved
+loop-at-preserved c =
+    let turn = search-turn c.args.size c.args.list.now c.loop-at.at c.in-Some.index c.index-slot.result.now c.loop-at.invariant c.in-Some.is c.index-slot.ensures in
     let found = c.next_multiple_of-first.ensures in
-    searched_past c.args.size c.next_multiple_of-first.result (frames_of es) (get_or es i d) (drop (i + 1) es)
-    (subst (IsSearchedTo c.args.size (frames_of es)) (drop_more es i d c.loop-extent-test.true) c.loop-extent.invariant)
-    c.requires.some found.lower_bound found.upper_bound found.multiple c.if-first-size.false
+    turn.next c.next_multiple_of-first.result c.requires.some found.lower_bound found.upper_bound found.multiple c.if-first-size.false
+
+pub loop-at-smaller : goal.loop-at-smaller
+loop-at-smaller c =
+    let turn = search-turn c.args.size c.args.list.now c.loop-at.at c.in-Some.index c.index-slot.result.now c.loop-at.invariant c.in-Some.is c.index-slot.ensures in
+    turn.less
 
 pub returns-then-first-size-clause-lowest : goal.returns-then-first-size-clause-lowest
 returns-then-first-size-clause-lowest c =
-    let d : Extent = record { first = 0; count = 0 } in
-    let es = c.args.extents.now in
-    let i = c.loop-extent.extent-index in
+    let turn = search-turn c.args.size c.args.list.now c.loop-at.at c.in-Some.index c.index-slot.result.now c.loop-at.invariant c.in-Some.is c.index-slot.ensures in
     let found = c.next_multiple_of-first.ensures in
-    sym (searched_found c.args.size c.next_multiple_of-first.result (frames_of es) (get_or es i d) (drop (i + 1) es)
-    (subst (IsSearchedTo c.args.size (frames_of es)) (drop_more es i d c.loop-extent-test.true) c.loop-extent.invariant)
-    c.requires.some found.lower_bound found.upper_bound found.multiple c.if-first-size.true)
+    sym (turn.found c.next_multiple_of-first.result c.requires.some found.lower_bound found.upper_bound found.multiple c.if-first-size.true)
+
+pub returns-clause-lowest : goal.returns-clause-lowest
+returns-clause-lowest c = sym (search-ends c.args.size c.args.list.now c.loop-at.at c.loop-at.invariant c.in_default.is)
+
+pub next_multiple_of-first-requires-clause-fits : goal.next_multiple_of-first-requires-clause-fits
+next_multiple_of-first-requires-clause-fits c =
+    let turn = search-turn c.args.size c.args.list.now c.loop-at.at c.in-Some.index c.index-slot.result.now c.loop-at.invariant c.in-Some.is c.index-slot.ensures in
+    let bound = turn.extent.2 in
+    let small = c.requires.small in
+    omega (arith, bound, small)
+
+pub overflow_add-first : goal.overflow_add-first
+overflow_add-first c =
+    let turn = search-turn c.args.size c.args.list.now c.loop-at.at c.in-Some.index c.index-slot.result.now c.loop-at.invariant c.in-Some.is c.index-slot.ensures in
+    let bound = turn.extent.2 in
+    let small = c.requires.small in
+    let upper = c.next_multiple_of-first.ensures.upper_bound in
+    omega (arith, bound, small, upper)
+
+pub overflow_add-extent : goal.overflow_add-extent
+overflow_add-extent c =
+    let turn = search-turn c.args.size c.args.list.now c.loop-at.at c.in-Some.index c.index-slot.result.now c.loop-at.invariant c.in-Some.is c.index-slot.ensures in
+    let bound = turn.extent.2 in
+    omega (arith, bound)
+
+pub returns-then-first-size-clause-low : goal.returns-then-first-size-clause-low
+returns-then-first-size-clause-low c =
+    let turn = search-turn c.args.size c.args.list.now c.loop-at.at c.in-Some.index c.index-slot.result.now c.loop-at.invariant c.in-Some.is c.index-slot.ensures in
+    let bound = turn.extent.2 in
+    let fits = c.if-first-size.true in
+    omega (arith, bound, fits)

@@ -1,8 +1,10 @@
-use Rattle.std.proofs.Common.{drop}
-use Rattle.frame_alloc.specs.Extents.{frames_of}
-use Rattle.frame_alloc.proofs.GroupLemmas.{IsSearchedTo}
+use Rattle.frame_alloc.proofs.Searches.{IsSearchedAt}
+use Rattle.frame_alloc.proofs.Walks.{ahead}
 use Rattle.frame_alloc.proofs.groups.lowest_group.Given as goal
 
--- the extents before the index have no group
-abbrev pub invariant-loop-extent : goal.invariant-loop-extent
-invariant-loop-extent l = IsSearchedTo l.size (frames_of l.extents) (drop l.extent-index l.extents)
+-- the extents so far have no group
+abbrev pub invariant-loop-at : goal.invariant-loop-at
+invariant-loop-at l = IsSearchedAt l.size l.list l.at
+
+abbrev pub decreases-loop-at : goal.decreases-loop-at
+decreases-loop-at l = ahead l.list l.at
