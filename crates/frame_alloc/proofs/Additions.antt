@@ -4,9 +4,11 @@ use Rattle.dl_base.specs.Consecutive.{numbers}
 use Rattle.frame_alloc.specs.declared.extents.Extent.{Extent}
 use Rattle.frame_alloc.specs.declared.slots.Slot.{Slot}
 use Rattle.frame_alloc.specs.declared.extent_list.ExtentList.{ExtentList}
-use Rattle.frame_alloc.specs.Extents.{frames_of, end_from, AreExtentsFrom}
-use Rattle.frame_alloc.specs.Slots.{slot_at, Cell, last_of, AreLists, used_cells, unused_cells, extents_in, last_used, IsExtentList}
-use Rattle.frame_alloc.specs.Links.{ChangesSlot, GainsSlot, IsUsed, IsAfter}
+use Rattle.frame_alloc.specs.Extents.{frames_of, AreExtentsFrom}
+use Rattle.frame_alloc.specs.PrivateExtents.{end_from}
+use Rattle.frame_alloc.specs.Slots.{slot_at, Cell, last_of, AreLists, used_cells, unused_cells, extents_in, IsExtentList}
+use Rattle.frame_alloc.specs.PrivateLinks.{last_used}
+use Rattle.frame_alloc.specs.PrivateLinks.{ChangesSlot, GainsSlot, IsUsed, IsAfter}
 use Rattle.frame_alloc.proofs.ExtentLemmas.{longer, frames_of-longer, AreExtents-longer, bound-last, frames_of-push, AreExtents-push, end_from-push}
 use Rattle.frame_alloc.proofs.Linking.{last_of-append, links-at}
 use Rattle.frame_alloc.proofs.Changes.{lists-found, lists-linked}

@@ -7,7 +7,7 @@ use Rattle.frame_alloc.specs.declared.extents.Extent.{Extent}
 use Rattle.frame_alloc.specs.declared.slots.Slot.{Slot}
 use Rattle.frame_alloc.specs.declared.extent_list.ExtentList.{ExtentList}
 use Rattle.frame_alloc.specs.Slots.{slot_at, Cell, AreLinked, times, last_of, AreLists, used_cells, unused_cells, IsLinkedList}
-use Rattle.frame_alloc.specs.Links.{joined_head, link_from, linked, unlinked, AreListsBut}
+use Rattle.frame_alloc.specs.PrivateLinks.{joined_head, link_from, linked, unlinked, AreListsBut}
 use Rattle.frame_alloc.proofs.Linking.{slot_at-set, times-append, times-here, times-other, linked-apart, linked-cut, linked-join, linked-in, linked-in_apart, links-at, unlinked-from, unlinked-apart, walk-linked, linked-past, length-linked, length-joined, first_of}
 
 -- every slot that stands in a list is one of the vector

@@ -5,7 +5,8 @@ use Rattle.std.proofs.lemmas.Grind.{flat_map-append}
 use Rattle.dl_base.specs.Consecutive.{numbers}
 use Rattle.dl_base.specs.declared.ranges.FrameRange.{FrameRange}
 use Rattle.frame_alloc.specs.Frames.{frames_in, AreFrameRangesFrom}
-use Rattle.frame_alloc.specs.Extents.{frames_of, end_from, AreExtentsFrom}
+use Rattle.frame_alloc.specs.Extents.{frames_of, AreExtentsFrom}
+use Rattle.frame_alloc.specs.PrivateExtents.{end_from}
 use Rattle.frame_alloc.specs.declared.extents.Extent.{Extent}
 use Rattle.frame_alloc.proofs.Without.{numbers-split}
 

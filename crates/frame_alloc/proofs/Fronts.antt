@@ -8,7 +8,7 @@ use Rattle.frame_alloc.specs.declared.extent_list.ExtentList.{ExtentList}
 use Rattle.frame_alloc.specs.Frames.{lowest_frame}
 use Rattle.frame_alloc.specs.Extents.{frames_of, AreExtentsFrom}
 use Rattle.frame_alloc.specs.Slots.{slot_at, Cell, AreLists, used_cells, unused_cells, extents_in, IsExtentList}
-use Rattle.frame_alloc.specs.Links.{LosesSlot, ChangesSlot, IsUsed}
+use Rattle.frame_alloc.specs.PrivateLinks.{LosesSlot, ChangesSlot, IsUsed}
 use Rattle.frame_alloc.proofs.Cuts.{weaker, AreExtents-cons}
 use Rattle.frame_alloc.proofs.Changes.{lists-found, lists-linked}
 use Rattle.frame_alloc.proofs.Walks.{extents, IsAtSlot, walk-begins, walk-at, slot-read}

@@ -6,7 +6,7 @@ use Rattle.std.proofs.lemmas.List.{get_or-set_same, get_or-set_other, length-set
 use Rattle.frame_alloc.specs.declared.extents.Extent.{Extent}
 use Rattle.frame_alloc.specs.declared.slots.Slot.{Slot}
 use Rattle.frame_alloc.specs.Slots.{slot_at, Cell, walk, AreLinked, times, last_of}
-use Rattle.frame_alloc.specs.Links.{with_after, with_before, joined, joined_head, link_from, linked, unlinked}
+use Rattle.frame_alloc.specs.PrivateLinks.{with_after, with_before, joined, joined_head, link_from, linked, unlinked}
 
 -- a slot that was written
 pub slot_at-set : (slots : List Slot) (i : ℕ) (slot : Slot) → i < length slots → slot_at (set slots i slot) i ≡ slot

@@ -6,7 +6,7 @@ use Rattle.frame_alloc.specs.declared.extent_list.ExtentList.{ExtentList}
 use Rattle.frame_alloc.specs.Frames.{without}
 use Rattle.frame_alloc.specs.Extents.{frames_of, AreExtentsFrom}
 use Rattle.frame_alloc.specs.Slots.{slot_at, Cell, AreLinked, last_of, AreLists, used_cells, unused_cells, extents_in, IsExtentList, spare_of}
-use Rattle.frame_alloc.specs.Links.{LosesSlot, ChangesSlot, GainsSlot, IsUsed, IsAfter, IsUnchanged}
+use Rattle.frame_alloc.specs.PrivateLinks.{LosesSlot, ChangesSlot, GainsSlot, IsUsed, IsAfter, IsUnchanged}
 use Rattle.frame_alloc.proofs.Cuts.{pieces, high_piece, cut, cut-later, frames_of-cut, weaker, AreExtents-cons, AreExtents-cut, pieces-below, pieces-met, low_piece-some, low_piece-none, high_piece-some, high_piece-none}
 use Rattle.frame_alloc.proofs.Linking.{last_of-append, first_of}
 use Rattle.frame_alloc.proofs.Changes.{lists-found, lists-linked}

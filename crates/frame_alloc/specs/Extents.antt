@@ -13,8 +13,3 @@ AreExtentsFrom start [] = Unit {0}
 AreExtentsFrom start (extent ∷ extents) =
     (start ≤ extent.first) × (0 < extent.count) × (extent.first + extent.count ≤ 2 ^ 28) ×
     AreExtentsFrom (extent.first + extent.count + 1) extents
-
--- the frame past the last extent, or a frame where there is none
-abbrev pub end_from : ℕ → List Extent → ℕ
-end_from start [] = start
-end_from start (extent ∷ extents) = end_from (extent.first + extent.count) extents

@@ -65,10 +65,6 @@ abbrev pub last_of : Option ℕ → List Cell → Option ℕ
 last_of before [] = before
 last_of before (cell ∷ cells) = last_of (Some cell.0) cells
 
--- the last slot that holds an extent, if there is one
-abbrev pub last_used : ExtentList → Option ℕ
-last_used list = last_of None (used_cells list)
-
 -- the extents are also ascending, apart and not empty
 pub record IsExtentList (list : ExtentList) : Type 0 where
   pub lists : IsLinkedList list

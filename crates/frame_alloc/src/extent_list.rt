@@ -1,7 +1,7 @@
 // A list of extents that is linked by index, and the slots that are not in use.
 ghost use Rattle.std.specs.Prelude.{◌≡◌, ◌+◌, ◌≤◌, vec_len, vec_capacity, IfOk, OnOk, OnErr};
 ghost use Rattle.frame_alloc.specs.Slots.{spare_of, IsLinkedList};
-ghost use Rattle.frame_alloc.specs.Links.{IsUsed, IsAfter, IsLoose, LosesSlot, ChangesSlot, GainsSlot, FreesSlot, PutsSlot, IsUnchanged};
+ghost use Rattle.frame_alloc.specs.PrivateLinks.{IsUsed, IsAfter, IsLoose, LosesSlot, ChangesSlot, GainsSlot, FreesSlot, PutsSlot, IsUnchanged};
 
 use crate::extents::Extent;
 use crate::slots::{Slot, add_slot, link, unlink};

@@ -2,8 +2,10 @@
 ghost use Rattle.std.specs.Prelude.{◌≡◌, ◌+◌, ◌-◌, ◌^◌, ◌<◌, ◌≤◌, ◌++◌, length, IfOk, OnOk};
 ghost use Rattle.dl_base.specs.Consecutive.{numbers};
 ghost use Rattle.frame_alloc.specs.Frames.{frames_in, AreFrameRanges};
-ghost use Rattle.frame_alloc.specs.Extents.{frames_of, end_from, AreExtentsFrom};
-ghost use Rattle.frame_alloc.specs.Slots.{extents_in, IsExtentList, last_used};
+ghost use Rattle.frame_alloc.specs.Extents.{frames_of, AreExtentsFrom};
+ghost use Rattle.frame_alloc.specs.PrivateExtents.{end_from};
+ghost use Rattle.frame_alloc.specs.Slots.{extents_in, IsExtentList};
+ghost use Rattle.frame_alloc.specs.PrivateLinks.{last_used};
 
 use crate::extent_list::{ExtentList, change, insert_after};
 use dl_base::FrameRange;

@@ -3,7 +3,7 @@ ghost use Rattle.std.specs.Prelude.{◌≡◌, ◌≤◌, ◌+◌, ◌^◌, drop
 ghost use Rattle.frame_alloc.specs.Frames.{lowest_frame, without};
 ghost use Rattle.frame_alloc.specs.Extents.{frames_of};
 ghost use Rattle.frame_alloc.specs.Slots.{extents_in, spare_of, IsExtentList};
-ghost use Rattle.frame_alloc.specs.Links.{IsUnchanged};
+ghost use Rattle.frame_alloc.specs.PrivateLinks.{IsUnchanged};
 
 use crate::extent_list::{ExtentList, change, insert_after, remove};
 use crate::extents::Extent;

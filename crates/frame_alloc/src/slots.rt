@@ -1,7 +1,7 @@
 // Slots, which are linked by index.
 ghost use Rattle.std.specs.Prelude.{◌≡◌, ◌+◌, ◌-◌, ◌<◌, ◌≤◌, [], ◌∷◌, ◌++◌, length, Some, IfSome, IfOk, OnOk, OnErr, vec_len, vec_capacity};
 ghost use Rattle.frame_alloc.specs.Slots.{no_slot, slot_at};
-ghost use Rattle.frame_alloc.specs.Links.{joined, joined_head, link_from, linked, unlinked};
+ghost use Rattle.frame_alloc.specs.PrivateLinks.{joined, joined_head, link_from, linked, unlinked};
 
 use crate::extents::Extent;
 use std::alloc::AllocError;

@@ -2,7 +2,7 @@ use Rattle.std.proofs.Common.{◌<◌, ℕ, ◌++◌, length, set, None, Option,
 use Rattle.std.specs.Prelude.{IfSome}
 use Rattle.std.proofs.lemmas.List.{length-set}
 use Rattle.frame_alloc.specs.declared.slots.Slot.{Slot}
-use Rattle.frame_alloc.specs.Links.{link_from}
+use Rattle.frame_alloc.specs.PrivateLinks.{link_from}
 use Rattle.frame_alloc.proofs.Linking.{linked-apart}
 use Rattle.frame_alloc.proofs.Changes.{place-links, put_in}
 use Rattle.frame_alloc.proofs.extent_list.put.Goals as goal

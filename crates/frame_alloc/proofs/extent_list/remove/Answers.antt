@@ -2,7 +2,7 @@ use Rattle.std.proofs.Common.{◌≡◌, ◌<◌, List, length, None, sym, subst
 use Rattle.std.specs.Prelude.{IfSome}
 use Rattle.frame_alloc.specs.declared.slots.Slot.{Slot}
 use Rattle.frame_alloc.specs.Slots.{slot_at}
-use Rattle.frame_alloc.specs.Links.{linked}
+use Rattle.frame_alloc.specs.PrivateLinks.{linked}
 use Rattle.frame_alloc.proofs.Linking.{length-joined}
 use Rattle.frame_alloc.proofs.Changes.{used-links, unused-below, removed}
 use Rattle.frame_alloc.proofs.extent_list.remove.Goals as goal

@@ -2,7 +2,7 @@ use Rattle.std.proofs.Common.{drop, Ok, Err, refl, sym, subst, arith}
 use Rattle.std.specs.Prelude.{OnErr, Result}
 use Rattle.frame_alloc.specs.declared.extent_list.ExtentList.{ExtentList}
 use Rattle.frame_alloc.specs.Slots.{no_slot}
-use Rattle.frame_alloc.specs.Links.{AreListsBut}
+use Rattle.frame_alloc.specs.PrivateLinks.{AreListsBut}
 use Rattle.frame_alloc.proofs.Changes.{unused-links, unused-some, taken, pushed}
 use Rattle.frame_alloc.proofs.extent_list.take_slot.Goals as goal
 

@@ -1,7 +1,8 @@
 use Rattle.std.proofs.Common.{◌≡◌, ◌<◌, ◌++◌, ◌⊎◌, inl, inr, length, Some, sym, ap, ◌∙◌, arith, append-nil}
 use Rattle.dl_base.specs.Consecutive.{numbers}
 use Rattle.dl_base.proofs.NumberLists.{numbers-zero}
-use Rattle.frame_alloc.specs.Extents.{frames_of, end_from}
+use Rattle.frame_alloc.specs.Extents.{frames_of}
+use Rattle.frame_alloc.specs.PrivateExtents.{end_from}
 use Rattle.frame_alloc.specs.Slots.{extents_in}
 use Rattle.frame_alloc.proofs.Additions.{IsAdded, last-below, last-at, last-bound, last-is_used, after-last, grown, last-apart, last-none, pushed_on}
 use Rattle.frame_alloc.proofs.extents.add_range.Goals as goal

@@ -2,7 +2,8 @@ use Rattle.std.proofs.Common.{◌+◌, ◌++◌, ℕ, List, get_or, drop, sym, a
 use Rattle.dl_base.specs.Consecutive.{numbers}
 use Rattle.dl_base.specs.declared.ranges.FrameRange.{FrameRange}
 use Rattle.frame_alloc.specs.Frames.{frames_in}
-use Rattle.frame_alloc.specs.Extents.{frames_of, end_from}
+use Rattle.frame_alloc.specs.Extents.{frames_of}
+use Rattle.frame_alloc.specs.PrivateExtents.{end_from}
 use Rattle.frame_alloc.specs.Slots.{extents_in}
 use Rattle.frame_alloc.proofs.ExtentLemmas.{ranges-front, frames_in-front, AreFrameRanges-weaker}
 use Rattle.frame_alloc.proofs.extents.extents_of.Goals as goal

@@ -1,7 +1,9 @@
 use Rattle.std.proofs.Common.{◌≡◌, ◌++◌, drop}
 use Rattle.frame_alloc.specs.Frames.{frames_in, AreFrameRangesFrom}
-use Rattle.frame_alloc.specs.Extents.{frames_of, end_from}
-use Rattle.frame_alloc.specs.Slots.{extents_in, last_used, IsExtentList}
+use Rattle.frame_alloc.specs.Extents.{frames_of}
+use Rattle.frame_alloc.specs.PrivateExtents.{end_from}
+use Rattle.frame_alloc.specs.Slots.{extents_in, IsExtentList}
+use Rattle.frame_alloc.specs.PrivateLinks.{last_used}
 use Rattle.frame_alloc.proofs.extents.extents_of.Given as goal
 
 -- the extents have the frames of the ranges before the index, and end where the others may begin

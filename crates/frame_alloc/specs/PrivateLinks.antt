@@ -3,7 +3,7 @@ use Rattle.std.specs.Prelude.{◌≡◌, ◌≢◌, ℕ, ◌+◌, ◌<◌, List,
 use Rattle.frame_alloc.specs.declared.extents.Extent.{Extent}
 use Rattle.frame_alloc.specs.declared.slots.Slot.{Slot}
 use Rattle.frame_alloc.specs.declared.extent_list.ExtentList.{ExtentList}
-use Rattle.frame_alloc.specs.Slots.{slot_at, Cell, AreLinked, times, last_of, AreLists}
+use Rattle.frame_alloc.specs.Slots.{slot_at, Cell, AreLinked, times, last_of, AreLists, used_cells}
 
 -- another slot comes after a slot
 abbrev pub with_after : List Slot → Option ℕ → Option ℕ → List Slot
@@ -108,3 +108,7 @@ pub record IsUnchanged (old new : ExtentList) : Type 0 where
   pub unused : new.unused ≡ old.unused
   pub unused_count : new.unused_count ≡ old.unused_count
   pub capacity : vec_capacity new.slots ≡ vec_capacity old.slots
+
+-- the last slot that holds an extent, if there is one
+abbrev pub last_used : ExtentList → Option ℕ
+last_used list = last_of None (used_cells list)
