@@ -1,0 +1,4 @@
+pub mod Characters
+pub mod Printed
+pub mod BadNames
+pub mod Opened
