@@ -1,4 +1,4 @@
+pub mod BadNames
 pub mod Characters
 pub mod Printed
-pub mod BadNames
-pub mod Opened
+pub mod PrivateOpened

@@ -2,7 +2,7 @@
 ghost use Rattle.std.specs.Prelude.{◌≡◌, ◌++◌, flat_map, OnOk, codes};
 ghost use Rattle.fdt_write.specs.Meaning.{meaning};
 ghost use Rattle.fdt_source.specs.Printed.{line, property_line, reserve_line};
-ghost use Rattle.fdt_source.specs.Opened.{begin_text, depth_after, token_line};
+ghost use Rattle.fdt_source.specs.PrivateOpened.{begin_text, depth_after, token_line};
 
 use crate::tabs::Tabs;
 use crate::values::append_after_name;

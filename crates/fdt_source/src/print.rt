@@ -6,7 +6,7 @@ ghost use Rattle.fdt_tree.specs.Tree as trees;
 ghost use Rattle.fdt_write.specs.Meaning.{meaning};
 ghost use Rattle.fdt_source.specs.Printed.{tree_lines, printed};
 ghost use Rattle.fdt_source.specs.BadNames.{first_bad};
-ghost use Rattle.fdt_source.specs.Opened.{opened_after, is_bad_token, token_path};
+ghost use Rattle.fdt_source.specs.PrivateOpened.{opened_after, is_bad_token, token_path};
 
 use crate::characters::{is_node_name, is_property_name};
 use crate::fault::PrintFault;
