@@ -62,6 +62,7 @@ $b mount -t proc p /proc
 $b mount -t sysfs s /sys
 echo "@cmdline $($b cat /proc/cmdline)"
 $b grep "System RAM" /proc/iomem | $b sed 's/^/@memory /'
+$b grep "Kernel " /proc/iomem | $b sed 's/^/@code /'
 $b grep processor /proc/cpuinfo | $b sed 's/^/@cpu /'
 for device in /sys/bus/platform/devices/* /sys/bus/amba/devices/*; do
     [ -e "$device/of_node" ] && echo "@device $($b basename "$device") $($b basename "$($b readlink "$device/driver")")"

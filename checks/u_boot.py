@@ -65,7 +65,7 @@ class Machine:
         self.sends("echo up")
         self.until(rb"\nup\s+=> ")
 
-    def until(self, pattern, seconds=120):
+    def until(self, pattern, seconds=900):
         """What is told up to the end of a pattern, or to the end; what is told next begins behind it."""
         limit = time.monotonic() + seconds
         while not (found := re.search(pattern, self.told)):
