@@ -13,7 +13,8 @@ def cells(*numbers):
 
 
 class Case:
-    """The words of a case and its files by their names; of a file that is cut, the first lines alone, one more in each run."""
+    """The words of a case and its files by their names, as bytes or as a count of zeros; of a file that is cut, the first lines
+    alone, one more in each run."""
 
     def __init__(self, name):
         self.words, self.files, self.cut, held = [], {}, None, None
@@ -25,8 +26,11 @@ class Case:
                 self.words.append(value)
             elif kind == "cut":
                 self.cut = value
-            elif held:
-                self.files[held] += self.piece(kind, value)
+            elif kind == "zeros" and not self.files[held]:
+                self.files[held] = int(value)
+            elif held and (piece := self.piece(kind, value)):
+                before = self.files[held]
+                self.files[held] = (bytes(before) if isinstance(before, int) else before) + piece
 
     @staticmethod
     def piece(kind, value):

@@ -5,7 +5,7 @@ import re, struct
 # Writes the tree at x0 to the serial port, in lines of `@`, a mark and 32 bytes in hexadecimal, and `$` behind the last.
 CODE = [
     0xAA0003F3,  # start:  mov x19, x0
-    0xD2A44001,  #         mov x1, #0x22000000
+    0xD2A00001,  #         mov x1, #UART        put in below
     0xB9400662,  #         ldr w2, [x19, #4]     the tree's total size
     0x5AC00842,  #         rev w2, w2
     0x52800805,  # line:   mov w5, #'@'
@@ -38,12 +38,13 @@ CODE = [
     0xB9000025,  #         str w5, [x1]
     0xD65F03C0,  #         ret
 ]
-MARK_AT = 6
+UART_AT, MARK_AT = 1, 6
 
 
-def telling_kernel(mark):
+def telling_kernel(mark, uart=0x22000000):
     """The kernel that tells its tree in lines that begin with `@` and a mark, with the header of an arm64 image."""
     code = list(CODE)
+    code[UART_AT] |= uart >> 16 << 5
     code[MARK_AT] = 0x52800005 | ord(mark) << 5
     header = struct.pack("<IIQQQQQQII", 0x14000010, 0, 0, 0x2000, 0xA, 0, 0, 0, 0x644D5241, 0)
     return header + b"".join(word.to_bytes(4, "little") for word in code)
