@@ -70,13 +70,18 @@ def nodes(node, path=""):
 
 
 def started(files, kernel, tree, end, memory="2G", processors=1, seconds=3000):
-    """What the machine says when U-Boot has loaded files to their addresses and starts the kernel with the tree."""
+    """What the machine says when U-Boot starts the kernel with the tree, where files lie at their addresses: those in the first
+    2 MiB of memory, where the emulator puts a tree of its own, are loaded by U-Boot, and the others by the emulator."""
     with tempfile.TemporaryDirectory() as name:
-        for number, (_, data) in enumerate(files):
-            pathlib.Path(name, f"file{number}").write_bytes(data)
-        machine = Machine(name, machine="virt,gic-version=3", memory=memory, processors=processors)
+        more = []
         for number, (address, data) in enumerate(files):
-            machine.says(f"tftpb {address:#x} file{number}")
+            pathlib.Path(name, f"file{number}").write_bytes(data)
+            if address >= 0x40200000:
+                more += ["-device", f"loader,file={name}/file{number},addr={address:#x},force-raw=on"]
+        machine = Machine(name, machine="virt,gic-version=3", memory=memory, processors=processors, more=more)
+        for number, (address, data) in enumerate(files):
+            if address < 0x40200000:
+                machine.says(f"tftpb {address:#x} file{number}")
             if machine.bytes_at(address, len(data)) != data:
                 not_so(f"a file of {len(data)} bytes is not loaded to {address:#x}")
         machine.says("setenv fdt_high 0xffffffffffffffff")

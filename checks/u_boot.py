@@ -40,12 +40,12 @@ def kernel():
 class Machine:
     """U-Boot at its prompt, with a folder that it loads files from: by tftp, and from a disk of a kind."""
 
-    def __init__(self, folder, kind="tftp", machine="virt", memory="1G", processors=1):
+    def __init__(self, folder, kind="tftp", machine="virt", memory="1G", processors=1, more=()):
         devices, lines = KINDS[kind]
         self.own = tempfile.TemporaryDirectory()
-        words = ["nice", "-n", "5", "qemu-system-aarch64", "-M", machine, "-cpu", "cortex-a57", "-smp", str(processors), "-m", memory]
+        words = ["qemu-system-aarch64", "-M", machine, "-cpu", "cortex-a57", "-smp", str(processors), "-m", memory]
         words += ["-bios", UBOOT, "-display", "none", "-monitor", f"unix:{self.own.name}/monitor,server=on,wait=off", "-serial", "stdio"]
-        words += ["-netdev", f"user,id=n,tftp={folder}", "-device", "virtio-net-device,netdev=n"]
+        words += ["-netdev", f"user,id=n,tftp={folder}", "-device", "virtio-net-device,netdev=n", *more]
         words += ["-drive", f"if=none,id=disk,format=raw,snapshot=on,file=fat:{folder}", *devices] if devices else []
         self.qemu = subprocess.Popen(words, stdin=subprocess.PIPE, stdout=subprocess.PIPE, stderr=subprocess.STDOUT)
         atexit.register(self.end)  # also where something is not so
