@@ -1,6 +1,6 @@
 """U-Boot under qemu, on the arm64 machine `virt`, whose memory begins at 0x40000000: Debian's u-boot-qemu and qemu-system-arm."""
 
-import atexit, os, pathlib, re, select, shutil, struct, subprocess, time
+import atexit, os, pathlib, re, select, shutil, socket, struct, subprocess, tempfile, time
 
 from script_trees import not_so
 
@@ -40,10 +40,12 @@ def kernel():
 class Machine:
     """U-Boot at its prompt, with a folder that it loads files from: by tftp, and from a disk of a kind."""
 
-    def __init__(self, folder, kind="tftp"):
+    def __init__(self, folder, kind="tftp", machine="virt", memory="1G", processors=1, more=()):
         devices, lines = KINDS[kind]
-        words = ["qemu-system-aarch64", "-M", "virt", "-cpu", "cortex-a57", "-m", "1G", "-bios", UBOOT, "-display", "none", "-monitor", "none"]
-        words += ["-serial", "stdio", "-netdev", f"user,id=n,tftp={folder}", "-device", "virtio-net-device,netdev=n"]
+        self.own = tempfile.TemporaryDirectory()
+        words = ["qemu-system-aarch64", "-M", machine, "-cpu", "cortex-a57", "-smp", str(processors), "-m", memory]
+        words += ["-bios", UBOOT, "-display", "none", "-monitor", f"unix:{self.own.name}/monitor,server=on,wait=off", "-serial", "stdio"]
+        words += ["-netdev", f"user,id=n,tftp={folder}", "-device", "virtio-net-device,netdev=n", *more]
         words += ["-drive", f"if=none,id=disk,format=raw,snapshot=on,file=fat:{folder}", *devices] if devices else []
         self.qemu = subprocess.Popen(words, stdin=subprocess.PIPE, stdout=subprocess.PIPE, stderr=subprocess.STDOUT)
         atexit.register(self.end)  # also where something is not so
@@ -63,7 +65,7 @@ class Machine:
         self.sends("echo up")
         self.until(rb"\nup\s+=> ")
 
-    def until(self, pattern, seconds=120):
+    def until(self, pattern, seconds=900):
         """What is told up to the end of a pattern, or to the end; what is told next begins behind it."""
         limit = time.monotonic() + seconds
         while not (found := re.search(pattern, self.told)):
@@ -86,10 +88,34 @@ class Machine:
         self.sends(line)
         return self.until(rb"\n=> |Resetting CPU").decode(errors="replace").replace("\r", "").removesuffix("\n=> ").partition("\n")[2]
 
+    def bytes_at(self, address, size):
+        """What lies in the machine's memory, as the emulator has it."""
+        file = pathlib.Path(self.own.name, "memory")
+        with socket.socket(socket.AF_UNIX) as monitor:
+            monitor.connect(f"{self.own.name}/monitor")
+            monitor.sendall(f'pmemsave {address:#x} {size:#x} "{file}"\n'.encode())
+            said = b""
+            while said.count(b"(qemu) ") < 2:
+                said += monitor.recv(65536)
+        return file.read_bytes()
+
+    def tree_at(self, address):
+        """The flattened tree that lies at an address."""
+        return self.bytes_at(address, int.from_bytes(self.bytes_at(address + 4, 4), "big"))
+
     def end(self):
         """Switches the machine off."""
         self.qemu.kill()
         self.qemu.wait()
+
+
+def machines_tree(machine, memory, processors=1):
+    """The tree of an emulated machine itself."""
+    with tempfile.TemporaryDirectory() as folder:
+        file = pathlib.Path(folder, "machine.dtb")
+        words = ["qemu-system-aarch64", "-M", f"{machine},dumpdtb={file}", "-cpu", "cortex-a57", "-smp", str(processors), "-m", memory]
+        subprocess.run([*words, "-display", "none"], capture_output=True, check=True)
+        return file.read_bytes()
 
 
 def make_image(folder, source):
@@ -100,13 +126,13 @@ def make_image(folder, source):
         not_so(f"mkimage: status {done.returncode}, {done.stdout}{done.stderr}")
 
 
-def run_script(machine, folder, script):
+def run_script(machine, folder, script, image_at=IMAGE_AT):
     """Sources a script whose last line is put off, and answers the status of each line, or None where it has none."""
     lines = [f"{line}\necho status {number} $?\n" for number, line in enumerate(script[:-1])]
     (folder / "tried.source").write_text("".join(lines))
     make_image(folder, "tried.source")
-    machine.says(f"tftpb {IMAGE_AT:#x} boot.scr")
-    told = machine.says(f"source {IMAGE_AT:#x}")
+    machine.says(f"tftpb {image_at:#x} boot.scr")
+    told = machine.says(f"source {image_at:#x}")
     statuses = {int(number): int(status) for number, status in re.findall(r"^status (\d+) (\d+)$", told, re.MULTILINE)}
     return [statuses.get(number) for number in range(len(lines))]
 
