@@ -13,11 +13,22 @@ const REPORT: usize = 100_000;
 
 const SAID: usize = 4000;
 
-/// The words of a run, the program's name first, and what it meets outside. What of its outputs is shown beside their
-/// lengths, and the file, if there is one, whose first lines alone are held, one more in each run; or the place of whose
-/// first calls one fails in each run, with how many these are.
+/// The program that is run.
+#[derive(Clone, Copy, PartialEq, Eq, Debug)]
+pub(crate) enum Program {
+    /// `dom0less`.
+    Build,
+    /// `guest_load`.
+    Load,
+}
+
+/// A program, the words of its run, its name first, and what it meets outside. What of its outputs is shown beside
+/// their lengths, the file, if there is one, whose first lines alone are held, one more in each run; or the place of
+/// whose first calls one fails in each run, with how many these are; or how the outputs are changed before they are
+/// audited.
 #[derive(Drop)]
 pub(crate) struct Case {
+    program: Program,
     pub(crate) words: Vec<String>,
     pub(crate) files: MemFiles,
     pub(crate) outs: MemOuts,
@@ -26,12 +37,14 @@ pub(crate) struct Case {
     pub(crate) shown: Vec<String>,
     pub(crate) cut: Option<String>,
     pub(crate) failing: Option<(String, u32)>,
+    pub(crate) audit: Option<Vec<String>>,
 }
 
 impl Case {
     /// The program's name alone, no files, and room for all that a run writes.
     pub(crate) fn new(alloc: Global) -> Result<Case, AllocError> {
         let mut case = Case {
+            program: Program::Build,
             words: Vec::new(alloc),
             files: MemFiles::new(alloc),
             outs: MemOuts::new(alloc),
@@ -40,6 +53,7 @@ impl Case {
             shown: Vec::new(alloc),
             cut: None,
             failing: None,
+            audit: None,
         };
         case.clear(alloc)?;
         case.add_word(alloc, "dom0less")?;
@@ -54,6 +68,13 @@ impl Case {
         self.outs.reserve(OUTPUTS, BYTES)?;
         self.out.reserve(REPORT)?;
         self.err.reserve(SAID)
+    }
+
+    /// The program is `guest_load`, of no words yet.
+    pub(crate) fn choose_load(&mut self, alloc: Global) -> Result<(), AllocError> {
+        self.program = Program::Load;
+        self.words.clear();
+        self.add_word(alloc, "guest_load")
     }
 
     /// Adds a word behind the others.
@@ -75,13 +96,23 @@ impl Case {
 
     /// Runs the program.
     pub(crate) fn run(&mut self, alloc: Global) -> Status {
-        dom0less::run(
-            alloc,
-            &self.words,
-            &mut self.files,
-            &mut self.outs,
-            &mut self.out,
-            &mut self.err,
-        )
+        match self.program {
+            Program::Build => dom0less::run(
+                alloc,
+                &self.words,
+                &mut self.files,
+                &mut self.outs,
+                &mut self.out,
+                &mut self.err,
+            ),
+            Program::Load => guest_load::run(
+                alloc,
+                &self.words,
+                &mut self.files,
+                &mut self.outs,
+                &mut self.out,
+                &mut self.err,
+            ),
+        }
     }
 }

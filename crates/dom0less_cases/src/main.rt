@@ -1,8 +1,10 @@
-//! Runs of `dom0less` in memory, described as data: the file `cases` names them, one a line, and each is a file of its own,
-//! whose lines say the words, the files that are held and the calls that fail. What each run answers, says and writes is
-//! shown. The trees in the folder `trees` that have a source beside them are its canonical spelling.
+//! Runs of `dom0less` and `guest_load` in memory, described as data: the file `cases` names them, one a line, and
+//! each is a file of its own, whose lines say the words, the files that are held and the calls that fail. What each
+//! run answers, says and writes is shown. The trees in the folder `trees` that have a source beside them are its
+//! canonical spelling.
 #![tactic(auto)]
 
+mod audits;
 mod case;
 mod content;
 mod cuts;
@@ -10,6 +12,7 @@ mod failing;
 mod reading;
 mod shown;
 
+use crate::audits::show_audit;
 use crate::cuts::show_cuts;
 use crate::failing::show_failing;
 use crate::reading::read_case;
@@ -24,6 +27,9 @@ fn show_case(rt: &(impl Print + std::rt::Files + AllocGlobal), name: &str) -> io
     }
     if let Some(file) = case.cut.take() {
         return show_cuts(rt, name, file.as_str(), &mut case);
+    }
+    if let Some(changes) = case.audit.take() {
+        return show_audit(rt, name, &changes, &mut case);
     }
     let status = case.run(rt.alloc());
     show(rt, name, status, &case)

@@ -1,16 +1,21 @@
 // Reading a case. Each line is a word of these and what belongs to it:
 //
+//     program NAME      the program is `guest_load`; without this line it is `dom0less`
 //     word TEXT         a further word of the run
 //     file NAME         a file is held under this name, whose bytes are those of the lines up to the next file
 //     from PATH         the bytes of this file
 //     line TEXT         a line of text
 //     zeros COUNT       so many bytes that are zero
+//     number VALUE      the eight bytes of this number, the lowest first
 //     fail PLACE CALL   the call of this number fails: of `files`, `outs`, `out` or `err`
 //     each PLACE COUNT  the run is made so many times, and the next call of this place fails each time
 //     cut NAME          the run is made for the first lines of this file, with one more each time
+//     audit outputs     the run is made again, with the word `--check`, over what it wrote
 //
-// and the words by which `content` shows more of an output than its length.
+// the words by which `content` shows more of an output than its length, and behind `audit` those by which `audits`
+// changes an output before it is read again.
 use crate::case::Case;
+use dl_base::read_number;
 use std::alloc::{AllocError, Global};
 use std::{fs, io};
 
@@ -70,6 +75,10 @@ fn add_bytes(
             file.bytes.extend_from_slice(value.as_bytes())?;
             file.bytes.extend_from_slice(b"\n")?;
         }
+        "number" => {
+            let value = read_number(value).unwrap_or(0);
+            file.bytes.extend_from_slice(&value.to_le_bytes())?;
+        }
         "zeros" => {
             let length = file.bytes.len().saturating_add(number(value) as usize);
             file.bytes.resize(length, 0)?;
@@ -79,7 +88,8 @@ fn add_bytes(
     Ok(())
 }
 
-/// Adds a word, a call that fails, the file that is cut, or what is shown.
+/// Chooses the program, or adds a word, a call that fails, the file that is cut, what is shown, or what is changed
+/// before an audit.
 fn add_call(
     alloc: Global,
     case: &mut Case,
@@ -88,6 +98,10 @@ fn add_call(
     value: &str,
 ) -> Result<(), AllocError> {
     match kind {
+        "program" => match value {
+            "guest_load" => case.choose_load(alloc),
+            _ => Ok(()),
+        },
         "word" => case.add_word(alloc, value),
         "fail" => match value.split_once(' ') {
             Some((place, call)) => case.fail_at(place, number(call) as u64),
@@ -101,6 +115,16 @@ fn add_call(
         }
         "cut" => {
             case.cut = Some(String::from_str(alloc, value)?);
+            Ok(())
+        }
+        "audit" => {
+            case.audit = Some(Vec::new(alloc));
+            Ok(())
+        }
+        "root" | "count" | "frame" | "put" | "keep" | "copy" => {
+            if let Some(changes) = &mut case.audit {
+                changes.push(String::from_str(alloc, line)?)?;
+            }
             Ok(())
         }
         "text" | "tree" | "frames" | "walk" | "entry" => {
