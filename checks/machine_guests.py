@@ -1,10 +1,10 @@
 """Guests of qemu's arm64 machine `virt`: their configurations, what is built of them, and their start without Xen."""
 
-import os, pathlib, re, subprocess, tempfile
+import os, pathlib, re, struct, subprocess, tempfile
 
 from board_trees import quad
 from script_trees import Node, flattened, not_so, written
-from u_boot import Machine
+from u_boot import Emulator
 
 TOP = pathlib.Path(__file__).resolve().parent.parent
 PROGRAM = pathlib.Path(os.environ.get("DOM0LESS", TOP / "crates/dom0less_cli/out/dom0less_cli")).resolve()
@@ -69,23 +69,49 @@ def nodes(node, path=""):
         yield from nodes(child, f"{path}/{name}")
 
 
-def started(files, kernel, tree, end, memory="2G", processors=1, seconds=3000):
-    """What the machine says when U-Boot starts the kernel with the tree, where files lie at their addresses: those in the first
-    2 MiB of memory, where the emulator puts a tree of its own, are loaded by U-Boot, and the others by the emulator."""
+# Copies a file to its address, and enters the kernel with the tree at x0, as the arm64 boot protocol has it.
+ENTERING = [
+    0x580001C5,  #         ldr x5, from
+    0x580001E6,  #         ldr x6, to
+    0x58000207,  #         ldr x7, end
+    0xEB0700BF,  # copy:   cmp x5, x7
+    0x54000082,  #         b.hs done
+    0xA8C124A8,  #         ldp x8, x9, [x5], #16
+    0xA88124C8,  #         stp x8, x9, [x6], #16
+    0x17FFFFFC,  #         b copy
+    0x58000180,  # done:   ldr x0, tree
+    0xAA1F03E1,  #         mov x1, xzr
+    0xAA1F03E2,  #         mov x2, xzr
+    0xAA1F03E3,  #         mov x3, xzr
+    0x58000144,  #         ldr x4, kernel
+    0xD61F0080,  #         br x4               then the five numbers
+]
+FIRST = 0x40200000  # the emulator puts a tree of its own below
+
+
+def entering(copied, tree, kernel):
+    """The code that is entered first, with (from, to, end) of the file that it copies."""
+    return b"".join(word.to_bytes(4, "little") for word in ENTERING) + struct.pack("<5Q", *copied, tree, kernel)
+
+
+def started(files, kernel, tree, end, gigabytes=2, processors=1, seconds=3000):
+    """What the machine says when the kernel is entered with the tree, where files lie at their addresses. The emulator puts them
+    there; but a file in the first 2 MiB of its memory, where it has a tree of its own, is copied there first. What enters the
+    kernel, and the file that is copied, lie at the end of the emulator's memory, which is no guest's."""
+    last = 0x40000000 + (gigabytes << 30)
+    stub, copied = last - (2 << 20), (0, 0, 0)
     with tempfile.TemporaryDirectory() as name:
-        more = []
+        words = ["qemu-system-aarch64", "-M", "virt,gic-version=3", "-cpu", "cortex-a57", "-smp", str(processors), "-m", f"{gigabytes}G"]
+        words += ["-display", "none", "-monitor", "none", "-serial", "stdio", "-no-reboot"]
         for number, (address, data) in enumerate(files):
+            place = address if address >= FIRST else last - (256 << 20)
+            if place != address:
+                copied = (place, address, place + len(data))
             pathlib.Path(name, f"file{number}").write_bytes(data)
-            if address >= 0x40200000:
-                more += ["-device", f"loader,file={name}/file{number},addr={address:#x},force-raw=on"]
-        machine = Machine(name, machine="virt,gic-version=3", memory=memory, processors=processors, more=more)
-        for number, (address, data) in enumerate(files):
-            if address < 0x40200000:
-                machine.says(f"tftpb {address:#x} file{number}")
-            if machine.bytes_at(address, len(data)) != data:
-                not_so(f"a file of {len(data)} bytes is not loaded to {address:#x}")
-        machine.says("setenv fdt_high 0xffffffffffffffff")
-        machine.sends(f"booti {kernel:#x} - {tree:#x}")
-        console = machine.until(end, seconds)
-        machine.end()
+            words += ["-device", f"loader,file={name}/file{number},addr={place:#x},force-raw=on"]
+        pathlib.Path(name, "stub").write_bytes(entering(copied, tree, kernel))
+        words += ["-device", f"loader,file={name}/stub,addr={stub:#x},force-raw=on", "-device", f"loader,addr={stub:#x},cpu-num=0"]
+        emulator = Emulator(words)
+        console = emulator.until(end, seconds)
+        emulator.end()
     return console

@@ -37,19 +37,44 @@ def kernel():
     return struct.pack("<IIQQQQQQII", 0x14000010, 0, 0, 0x1000, 0xA, 0, 0, 0, 0x644D5241, 0) + code
 
 
-class Machine:
+class Emulator:
+    """An emulated machine, whose serial port is that of the process."""
+
+    def __init__(self, words):
+        self.qemu = subprocess.Popen(words, stdin=subprocess.PIPE, stdout=subprocess.PIPE, stderr=subprocess.STDOUT)
+        atexit.register(self.end)  # also where something is not so
+        self.told = b""
+
+    def until(self, pattern, seconds=900):
+        """What is told up to the end of a pattern, or to the end; what is told next begins behind it."""
+        limit = time.monotonic() + seconds
+        while not (found := re.search(pattern, self.told)):
+            ready, _, _ = select.select([self.qemu.stdout], [], [], max(0, limit - time.monotonic()))
+            data = os.read(self.qemu.stdout.fileno(), 65536) if ready else b""
+            if not data:
+                break
+            self.told += data
+        end = found.end() if found else len(self.told)
+        text, self.told = self.told[:end], self.told[end:]
+        return text
+
+    def end(self):
+        """Switches the machine off."""
+        self.qemu.kill()
+        self.qemu.wait()
+
+
+class Machine(Emulator):
     """U-Boot at its prompt, with a folder that it loads files from: by tftp, and from a disk of a kind."""
 
-    def __init__(self, folder, kind="tftp", machine="virt", memory="1G", processors=1, more=()):
+    def __init__(self, folder, kind="tftp", machine="virt", memory="1G", processors=1):
         devices, lines = KINDS[kind]
         self.own = tempfile.TemporaryDirectory()
         words = ["qemu-system-aarch64", "-M", machine, "-cpu", "cortex-a57", "-smp", str(processors), "-m", memory]
         words += ["-bios", UBOOT, "-display", "none", "-monitor", f"unix:{self.own.name}/monitor,server=on,wait=off", "-serial", "stdio"]
-        words += ["-netdev", f"user,id=n,tftp={folder}", "-device", "virtio-net-device,netdev=n", *more]
+        words += ["-netdev", f"user,id=n,tftp={folder}", "-device", "virtio-net-device,netdev=n"]
         words += ["-drive", f"if=none,id=disk,format=raw,snapshot=on,file=fat:{folder}", *devices] if devices else []
-        self.qemu = subprocess.Popen(words, stdin=subprocess.PIPE, stdout=subprocess.PIPE, stderr=subprocess.STDOUT)
-        atexit.register(self.end)  # also where something is not so
-        self.told = b""
+        super().__init__(words)
         self.version = re.search(rb"U-Boot (\S+)", self.until(rb"Hit any key"))[1].decode()
         self.stop_autoboot()
         for line in ["setenv ipaddr 10.0.2.15", "setenv serverip 10.0.2.2", *lines]:
@@ -64,19 +89,6 @@ class Machine:
                 break
         self.sends("echo up")
         self.until(rb"\nup\s+=> ")
-
-    def until(self, pattern, seconds=900):
-        """What is told up to the end of a pattern, or to the end; what is told next begins behind it."""
-        limit = time.monotonic() + seconds
-        while not (found := re.search(pattern, self.told)):
-            ready, _, _ = select.select([self.qemu.stdout], [], [], max(0, limit - time.monotonic()))
-            data = os.read(self.qemu.stdout.fileno(), 65536) if ready else b""
-            if not data:
-                break
-            self.told += data
-        end = found.end() if found else len(self.told)
-        text, self.told = self.told[:end], self.told[end:]
-        return text
 
     def sends(self, line):
         """Types a line at the prompt."""
@@ -102,11 +114,6 @@ class Machine:
     def tree_at(self, address):
         """The flattened tree that lies at an address."""
         return self.bytes_at(address, int.from_bytes(self.bytes_at(address + 4, 4), "big"))
-
-    def end(self):
-        """Switches the machine off."""
-        self.qemu.kill()
-        self.qemu.wait()
 
 
 def machines_tree(machine, memory, processors=1):
