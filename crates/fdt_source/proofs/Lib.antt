@@ -4,3 +4,7 @@ pub mod Printing
 pub mod Lined
 pub mod Bad
 pub mod OpenLemmas
+pub mod OneOutcome
+pub mod Avoided
+pub mod Exact
+pub mod Shown

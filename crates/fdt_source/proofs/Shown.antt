@@ -1,0 +1,47 @@
+-- What a run that ends with status 0 has printed.
+use Rattle.std.proofs.Common.{◌≡◌, ◌∙◌, subst, refl, ℕ, List, [], ◌∷◌, Bool, true, false, cond, Option, Some, None}
+use Rattle.std.specs.Prelude.{IsTrue, not}
+use Rattle.std.specs.List.{list_all}
+use Rattle.std.proofs.lemmas.List.Sums.{take_while-cons}
+use Rattle.dl_base.specs.Outside.{File}
+use Rattle.fdt_tree.specs.Tree.{Tree}
+use Rattle.fdt_tree.specs.declared.reserve.Reserve.{Reserve}
+use Rattle.fdt_read.specs.Reservations.{pairs, reservations_block, before_last, is_last_pair}
+use Rattle.fdt_read.specs.Spells.{Spells}
+use Rattle.run_steps.specs.Endings.{Builds}
+use Rattle.run_steps.specs.Trees.{FlatTree, AfterTreeFile, IsTreeFile}
+use Rattle.run_steps.proofs.Step.{found_by}
+use Rattle.run_steps.proofs.ReadingSteps.{tree_file_step}
+use Rattle.fdt_source.specs.BadNames.{first_bad}
+use Rattle.fdt_source.specs.Printed.{printed}
+use Rattle.fdt_source.specs.Job.{OnBadName, IsPrinting, IsAskedJob}
+
+-- a pair that does not end the list, before others
+one_more : (reserve : Reserve) (later : List Reserve) (test : Bool) → not (is_last_pair reserve) ≡ test → IsTrue (list_all (λ reserve. not (is_last_pair reserve)) later)
+    → IsTrue (list_all (λ reserve. not (is_last_pair reserve)) (cond test (reserve ∷ later) []))
+one_more reserve later true e ok = rw e ok
+one_more reserve later false e ok = refl
+
+-- the pairs before the one that ends the list do not end it
+all_before_last : (reserves : List Reserve) → IsTrue (list_all (λ reserve. not (is_last_pair reserve)) (before_last reserves))
+all_before_last [] = refl
+all_before_last (reserve ∷ later) =
+    rw (take_while-cons (λ (reserve : Reserve). not (is_last_pair reserve)) reserve later) (one_more reserve (before_last later) (not (is_last_pair reserve)) refl (all_before_last later))
+
+-- no reservation of a file that was read ends the list
+pub no_last_pairs : (bytes : List ℕ) (reserves : List Reserve) (boot : ℕ) (root : Tree) → Spells bytes reserves boot root → IsTrue (list_all (λ reserve. not (is_last_pair reserve)) reserves)
+no_last_pairs bytes reserves boot root spelled =
+    subst (λ (read : List Reserve). IsTrue (list_all (λ reserve. not (is_last_pair reserve)) read)) spelled.reserved (all_before_last (pairs (reservations_block bytes)))
+
+by_name : (name : List ℕ) (tree : FlatTree) (outputs : List File) (said : List ℕ) (found : Option (List ℕ)) → OnBadName name tree found (Builds outputs said)
+    → (found ≡ None) × (outputs ≡ []) × (said ≡ printed tree.reserves tree.root)
+by_name name tree outputs said (Some path) refused = elim refused [ ]
+by_name name tree outputs said None written = (refl, written.0, written.1)
+
+-- no output, and the text
+pub shown : (told : Option (List File)) (name : List ℕ) (outputs : List File) (said : List ℕ) → IsAskedJob told name (Builds outputs said)
+    → (tree : FlatTree) × IsTreeFile told name tree × (first_bad tree.root ≡ None) × (outputs ≡ []) × (said ≡ printed tree.reserves tree.root)
+shown told name outputs said job =
+    let found = found_by (IsTreeFile told name) (AfterTreeFile told name) (tree_file_step told name) (IsPrinting name) outputs said job in
+    let written = by_name name found.0 outputs said (first_bad found.0.root) found.2 in
+    (found.0, found.1, written.0, written.1, written.2)

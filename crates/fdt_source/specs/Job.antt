@@ -1,0 +1,37 @@
+-- What a run is called to do by its words and by the files.
+use Rattle.std.specs.Prelude.{ℕ, List, [], codes, Option, Some, None}
+use Rattle.dl_base.specs.Outside.{File}
+use Rattle.dl_base.specs.declared.status.Status.TheVariants as statuses
+use Rattle.run_steps.specs.Endings.{Outcome}
+use Rattle.run_steps.specs.Steps.{IsRefusal, IsWriting}
+use Rattle.run_steps.specs.Trees.{FlatTree, AfterTreeFile}
+use Rattle.fdt_source.specs.BadNames.{first_bad}
+use Rattle.fdt_source.specs.Printed.{printed}
+use Rattle.fdt_source.specs.Messages.{bad_name_message}
+use Rattle.fdt_source.specs.Words.{asked}
+
+-- the first node with a name that cannot be printed is refused; where there is none, the tree's text is the report
+abbrev pub OnBadName : List ℕ → FlatTree → Option (List ℕ) → Outcome → Type 0
+OnBadName name tree (Some path) outcome = IsRefusal statuses.Refused (bad_name_message name path) outcome
+OnBadName name tree None outcome = IsWriting [] (printed tree.reserves tree.root) outcome
+
+-- what a tree of this name calls for
+abbrev pub IsPrinting : List ℕ → FlatTree → Outcome → Type 0
+IsPrinting name tree outcome = OnBadName name tree (first_bad tree.root) outcome
+
+-- what is asked for: the tree is read, and printed
+abbrev pub IsAskedJob : Option (List File) → List ℕ → Outcome → Type 0
+IsAskedJob told name outcome = AfterTreeFile told name (IsPrinting name) outcome
+
+-- other words are refused
+abbrev pub IsWordsJob : Option (List File) → Option (List ℕ) → Outcome → Type 0
+IsWordsJob told None outcome = IsRefusal statuses.Words (codes "usage") outcome
+IsWordsJob told (Some name) outcome = IsAskedJob told name outcome
+
+-- the words and the files call for this outcome, by what the files hold where that is told, and else by some answers of theirs
+abbrev pub CallsFor : List (List ℕ) → Option (List File) → Outcome → Type 0
+CallsFor words told outcome = IsWordsJob told (asked words) outcome
+
+-- the words and these files do
+abbrev pub IsJob : List (List ℕ) → List File → Outcome → Type 0
+IsJob words held outcome = CallsFor words (Some held) outcome
