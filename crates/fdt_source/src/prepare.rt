@@ -2,7 +2,7 @@
 ghost use Rattle.std.specs.Prelude.{◌≡◌, IfOk, IfErr, IsTrue, not};
 ghost use Rattle.std.specs.List.{list_all};
 ghost use Rattle.fdt_read.specs.Reservations.{is_last_pair};
-ghost use Rattle.run_steps.specs.Outputs.{outcome_of};
+ghost use Rattle.run_steps.specs.PrivateOutcomes.{outcome_of};
 ghost use Rattle.run_steps.specs.Stops.{IsDue, IsOwnDue};
 ghost use Rattle.run_steps.specs.Trees.{flat_tree};
 ghost use Rattle.fdt_source.specs.Messages.{bad_name_message};
