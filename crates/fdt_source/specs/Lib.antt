@@ -6,3 +6,7 @@ pub mod Words
 pub mod Messages
 pub mod Job
 pub mod Laws
+pub mod Source
+pub mod Turns
+pub mod Readings
+pub mod ReadLaws
