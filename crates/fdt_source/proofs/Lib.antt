@@ -8,3 +8,23 @@ pub mod OneOutcome
 pub mod Avoided
 pub mod Exact
 pub mod Shown
+pub mod Taken
+pub mod Running
+pub mod Blanks
+pub mod Stops
+pub mod Numbers
+pub mod Values
+pub mod Nodes
+pub mod Completeness
+pub mod OneTree
+pub mod Only
+pub mod Peeling
+pub mod ValuesBack
+pub mod NodesBack
+pub mod Soundness
+pub mod Alive
+pub mod Decided
+pub mod Grown
+pub mod ValuesPrinted
+pub mod PrintedBack
+mod Least

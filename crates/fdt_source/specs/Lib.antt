@@ -5,4 +5,8 @@ pub mod Laws
 pub mod Messages
 pub mod Printed
 pub mod PrivateOpened
+pub mod ReadLaws
+pub mod Readings
+pub mod Source
+pub mod Turns
 pub mod Words

@@ -1,19 +1,26 @@
-//! Device tree source (Devicetree Specification 0.4, appendix A): the one printed text of a tree.
+//! Device tree source (Devicetree Specification 0.4, appendix A): the one printed text of a tree, and a reader of a
+//! stated subset.
 #![tactic(auto)]
 
 mod characters;
 mod fault;
+mod growing;
 pub mod laws;
 mod lines;
 mod opened;
 mod pieces;
 mod prepare;
 mod print;
+mod read;
+mod reading;
+mod state;
 mod tabs;
 mod top;
+mod turns;
 mod values;
 mod words;
 
-pub use fault::PrintFault;
+pub use fault::{PrintFault, SourceFault};
 pub use print::print_source;
+pub use read::{Source, read_source};
 pub use top::run;

@@ -1,0 +1,18 @@
+-- A text says one thing.
+use Rattle.std.proofs.Common.{◌≡◌, ◌∙◌, sym, ap, List, Some}
+use Rattle.fdt_tree.specs.Tree.{Bytes, Tree}
+use Rattle.fdt_tree.specs.declared.reserve.Reserve.{Reserve}
+use Rattle.fdt_source.specs.Readings.{Built, Stand}
+use Rattle.fdt_source.specs.ReadLaws.{IsOne}
+use Rattle.fdt_source.specs.declared.state.Next.TheVariants.{Over}
+use Rattle.fdt_source.proofs.Running.{stand, same_stand}
+use Rattle.fdt_source.proofs.Completeness.{complete}
+use Rattle.fdt_source.proofs.OneTree.{same_tree}
+
+pub only : IsOne
+only text r q t u a b =
+    let x = complete text r t a in
+    let y = complete text q u b in
+    let met : stand x.comment Over 0 x.built ≡ stand y.comment Over 0 y.built = same_stand (stand x.comment Over 0 x.built) (stand y.comment Over 0 y.built) (sym x.way ∙ y.way) in
+    let same : x.built ≡ y.built = ap (λ (z : Stand). z.3) met in
+    (sym x.said ∙ (ap (λ (z : Built). z.reserves) same ∙ y.said), same_tree t u a.root.6 b.root.6 (sym x.read ∙ (ap (λ (z : Built). z.tokens) same ∙ y.read)))
