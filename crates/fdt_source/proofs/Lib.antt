@@ -13,7 +13,7 @@ pub mod Running
 pub mod Blanks
 pub mod Stops
 pub mod Numbers
-pub mod Values
+pub mod ValueLemmas
 pub mod Nodes
 pub mod Completeness
 pub mod OneTree

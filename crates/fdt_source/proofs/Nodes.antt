@@ -20,7 +20,7 @@ use Rattle.fdt_source.specs.Readings.{Built, act, runs}
 use Rattle.fdt_source.proofs.Running.{cont}
 use Rattle.fdt_source.proofs.Blanks.{IsGap, over_blank}
 use Rattle.fdt_source.proofs.Stops.{IsStop, Front, IsNameByte, property_plain, node_plain, stop_59, stop_61, stop_123, blank_front}
-use Rattle.fdt_source.proofs.Values.{valued, gap_value, gap_after_value, over_values}
+use Rattle.fdt_source.proofs.ValueLemmas.{valued, gap_value, gap_after_value, over_values}
 
 pub gap_body : (fresh : Bool) → IsGap (Body fresh)
 gap_body fresh = record { here = λ d c. refl; there = λ d c. refl; again = refl }

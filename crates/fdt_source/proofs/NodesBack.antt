@@ -19,7 +19,7 @@ use Rattle.fdt_source.specs.Turns.{Turn, to, pass, may_be_property, may_be_node,
 use Rattle.fdt_source.specs.Readings.{Built, Stand, act, runs}
 use Rattle.fdt_source.proofs.Running.{cont}
 use Rattle.fdt_source.proofs.Nodes.{named, gap_body, gap_after_name, gap_closed, node_tokens}
-use Rattle.fdt_source.proofs.Values.{valued}
+use Rattle.fdt_source.proofs.ValueLemmas.{valued}
 use Rattle.fdt_source.proofs.Peeling.{behind, no_blank, Gets, stops, nowhere, Token, IsToken, peel_token, token_gets}
 use Rattle.fdt_source.proofs.ValuesBack.{Valued, value_back, More, more_back, token_less}
 

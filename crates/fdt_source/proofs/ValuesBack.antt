@@ -21,7 +21,7 @@ use Rattle.fdt_source.specs.Readings.{Built, Stand, act, runs}
 use Rattle.fdt_source.proofs.Running.{cont}
 use Rattle.fdt_source.proofs.Blanks.{IsGap}
 use Rattle.fdt_source.proofs.Numbers.{IsNumeric, cell_numeric, ended_here, first_16, first_10}
-use Rattle.fdt_source.proofs.Values.{valued, twice, never, gap_value, gap_after_value, gap_cells, gap_pairs}
+use Rattle.fdt_source.proofs.ValueLemmas.{valued, twice, never, gap_value, gap_after_value, gap_cells, gap_pairs}
 use Rattle.fdt_source.proofs.Peeling.{behind, no_blank, blank_twice, Gets, stops, nowhere, Token, IsToken, peel_token, token_gets}
 
 -- A byte that is no wanted one leads nowhere.
