@@ -1,5 +1,5 @@
 // Trees in memory: what is added is found, while memory is left.
-use fdt_tree::{EditFault, Tree, highest_phandle, phandles};
+use fdt_tree::{EditFault, Tree};
 use std::alloc::Global;
 use std::test::Fail;
 
@@ -27,32 +27,5 @@ fn edits_find_their_node_by_its_path(rt: HostRuntime) -> Result<(), Fail> {
     tree.set(b"/cpus/cpu@1/l2", b"reg", b"c")?;
     assert_eq!(rt; tree.prop(added, b"reg"), Some(b"c".as_slice()));
     assert_eq!(rt; tree.prop_count(added), 2);
-    Ok(())
-}
-
-/// A root with a child for each of these phandles.
-fn with_phandles(alloc: Global, values: &[u32]) -> Result<Tree, EditFault> {
-    let mut tree = match Tree::new(alloc) {
-        Ok(tree) => tree,
-        Err(_) => return Err(EditFault::Memory),
-    };
-    for value in values {
-        let node = tree.add_node(tree.root(), b"node")?;
-        match tree.add_prop(node, b"phandle", &value.to_be_bytes()) {
-            Ok(()) => {}
-            Err(_) => return Err(EditFault::Memory),
-        }
-    }
-    Ok(tree)
-}
-
-#[test]
-fn phandles_find_their_nodes(rt: HostRuntime) -> Result<(), Fail> {
-    let tree = with_phandles(rt.alloc(), &[5, 9, 7])?;
-    let found = phandles(rt.alloc(), &tree)?;
-    assert!(rt; found.get(9).is_some());
-    assert!(rt; found.get(8).is_none());
-    assert_eq!(rt; found.highest(), 9);
-    assert_eq!(rt; highest_phandle(&tree), 9);
     Ok(())
 }

@@ -25,17 +25,6 @@ fn draws_a_chunk_a_pair_and_frames(rt: HostRuntime) -> Result<(), Fail> {
 }
 
 #[test]
-fn single_odd_frames_have_no_pair(rt: HostRuntime) -> Result<(), Fail> {
-    let mut ranges = List::new(rt.alloc());
-    ranges.push(FrameRange { first: 1, count: 1 })?;
-    ranges.push(FrameRange { first: 3, count: 1 })?;
-    let mut pool = FramePool::new(rt.alloc(), &ranges)?;
-    assert_eq!(rt; pool.take_pair(), Err(PoolFault::NoPair));
-    assert_eq!(rt; pool.free_frames(), 2);
-    Ok(())
-}
-
-#[test]
 fn holes_in_every_eight_frames_leave_pairs_and_no_chunk(rt: HostRuntime) -> Result<(), Fail> {
     let mut ranges = List::new(rt.alloc());
     ranges.push(FrameRange {

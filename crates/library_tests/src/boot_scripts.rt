@@ -1,6 +1,5 @@
-// The text of commands that no configuration has, and of a fault that names a guest.
+// The text of commands that no configuration has.
 use dl_base::{Bytes, List, Text};
-use ib_config::ConfigFault;
 use ib_script::{Command, Piece, print};
 use std::alloc::{AllocError, Global};
 use std::test::Fail;
@@ -64,14 +63,5 @@ setenv a b c
 setenv a
 ";
     assert!(rt; text.as_slice() == lines.as_bytes());
-    Ok(())
-}
-
-#[test]
-fn a_guests_variable_is_shown_with_its_index(rt: HostRuntime) -> Result<(), Fail> {
-    let fault = ConfigFault::Missing(text_of(rt.alloc(), "DOMU_KERNEL")?, 3);
-    let mut line = Bytes::new(rt.alloc());
-    fault.append_text(rt.alloc(), &mut line)?;
-    assert_eq!(rt; line.as_slice(), b"Missing DOMU_KERNEL[3]".as_slice());
     Ok(())
 }
