@@ -28,7 +28,7 @@ fn draw_chunks(
         match pool.take_chunk() {
             Ok(first) => frames.push(FrameRange { first, count: 512 })?,
             Err(PoolFault::NoChunk) => return Ok(None),
-            Err(PoolFault::NoPair) => unreachable!(),
+            Err(PoolFault::NoPair | PoolFault::NoRun) => unreachable!(),
             Err(PoolFault::Memory) => return Err(AllocError),
         }
     }

@@ -2,6 +2,7 @@ pub mod EntryLemmas
 pub mod WalkLemmas
 pub mod PlaceNodes
 pub mod Turns
+pub mod BelowLemmas
 pub mod PathLemmas
 pub mod Members
 pub mod ChildLists

@@ -4,7 +4,7 @@ ghost use Rattle.fdt_nodes.specs.Nodes.{children, descendants, nodes_of, node_fo
 ghost use Rattle.fdt_nodes.specs.Held.{node_of, Are};
 
 use dl_base::List;
-use fdt_tree::{NodeId, Tree};
+use fdt_tree::{NodeId, Tree, Walk};
 use std::alloc::{AllocError, Global};
 
 /// The children of a node, in order.
@@ -29,11 +29,10 @@ fn append_below(tree: &Tree, node: NodeId, found: &mut List<NodeId>) -> Result<(
     ensures live { All (λ n. n < length tree.now.places) found.old → OnOk result (All (λ n. n < length tree.now.places) found.new) }
 {
     tree.numbering();
-    let mut at = tree.first_child(node);
-    while let Some(child) = at {
-        found.push(child)?;
-        append_below(tree, child, found)?;
-        at = tree.next_sibling(child);
+    for visit in Walk::below(tree, node) {
+        if let Some(child) = visit.entered() {
+            found.push(child)?;
+        }
     }
     Ok(())
 }

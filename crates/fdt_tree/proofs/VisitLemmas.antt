@@ -1,21 +1,23 @@
 -- The visits of a walk see the whole tree, one after another.
-use Rattle.std.proofs.Common.{IsSome, ◌≡◌, ℕ, zero, suc, ◌+◌, ◌<◌, true, false, List, [], ◌∷◌, ◌++◌, Option, Some, length, map, refl, sym, ap, ◌∙◌, subst, arith, append_assoc}
+use Rattle.std.proofs.Common.{IsSome, ◌≡◌, ◌≤◌, ℕ, zero, suc, ◌+◌, ◌<◌, true, false, List, [], ◌∷◌, ◌++◌, Option, Some, length, map, refl, sym, ap, ◌∙◌, subst, arith, append_assoc}
 use Rattle.std.specs.Prelude.{All, bytes_eq, slice_index_or}
 use Rattle.std.specs.Option.{option_map_or}
 use Rattle.std.proofs.lemmas.Bool.{cond-true, cond-false}
+use Rattle.std.proofs.lemmas.List.{append-nil}
 use Rattle.std.proofs.lemmas.List.Elements.{All-append, All-cons}
 use Rattle.std.proofs.lemmas.Slice.Eq.{bytes_eq-Decides}
-use Rattle.fdt_tree.specs.Tree.{Trees, none, tree, Tree, Place, at_in, at}
-use Rattle.fdt_tree.specs.Document.{Document, place_of, IsNumbering}
+use Rattle.fdt_tree.specs.Tree.{Trees, none, tree, Tree, Place, at_in, at, depth_limit}
+use Rattle.fdt_tree.specs.Document.{Document, place_of, children_of, IsNumbering}
 use Rattle.fdt_tree.specs.Visits.{Seen, begins, ends, visits_below, visits, seen, IsLive}
-use Rattle.fdt_tree.specs.Upcoming.{number_in, visit_of, upcoming}
-use Rattle.fdt_tree.specs.PrivateTurns.{IsTurn}
+use Rattle.fdt_tree.specs.Upcoming.{number_in, visit_of, visits_left, nodes_open, within, upcoming, IsAt}
+use Rattle.fdt_tree.specs.PrivateTurns.{opened_after, IsTurn}
 use Rattle.fdt_tree.specs.declared.walk.Step.{Step}
-use Rattle.fdt_tree.specs.declared.walk.Step.TheVariants.{Before}
+use Rattle.fdt_tree.specs.declared.walk.Step.TheVariants.{Before, Entered, Left}
 use Rattle.fdt_tree.specs.declared.walk.Turn.{Turn}
 use Rattle.fdt_tree.specs.declared.walk.Visit.{Visit}
 use Rattle.fdt_tree.specs.declared.walk.Visit.TheVariants.{Enter, Leave}
-use Rattle.fdt_tree.proofs.Walking.{before-root}
+use Rattle.fdt_tree.proofs.Edits.{at-below}
+use Rattle.fdt_tree.proofs.Walking.{stands, before-root}
 
 -- No two numbers are of one place.
 abbrev AreApart : List Place → Type 0
@@ -40,10 +42,28 @@ visit_of-seen : (d : Document) (visit : Visit) → IsNumbering d → IsLive d vi
 visit_of-seen d (Enter node) numbering live = ap Enter (number_in-here d.places node numbering.differ live)
 visit_of-seen d Leave numbering live = refl
 
+within-first : (d : Document) (visit : Visit) (opened : ℕ) (rest : List Seen) → within opened (seen d visit ∷ rest) ≡ option_map_or (λ o. seen d visit ∷ within o rest) (opened_after visit opened) []
+within-first d (Enter node) opened rest = refl
+within-first d Leave zero rest = refl
+within-first d Leave (suc opened) rest = refl
+
+upcoming-first : (d : Document) (node opened : ℕ) (step : Step) (turn : Turn) → IsTurn d node step turn → upcoming d node step opened ≡ map (visit_of d) (option_map_or (λ o. seen d turn.visit ∷ within o (visits_left d turn.node turn.step)) (opened_after turn.visit opened) [])
+upcoming-first d node opened step turn t =
+    ap (λ (left : List Seen). map (visit_of d) (within opened left)) t.first ∙ ap (map (visit_of d)) (within-first d turn.visit opened (visits_left d turn.node turn.step))
+
 -- A turn takes the first of the visits to come.
-pub turned : (d : Document) (node : ℕ) (step : Step) (turn : Turn) → IsNumbering d → IsTurn d node step turn → upcoming d node step ≡ turn.visit ∷ upcoming d turn.node turn.step
-turned d node step turn numbering t =
-    ap (map (visit_of d)) t.first ∙ ap (λ (v : Visit). v ∷ upcoming d turn.node turn.step) (visit_of-seen d turn.visit numbering t.visit)
+pub turned : (d : Document) (node opened more : ℕ) (step : Step) (turn : Turn) → IsNumbering d → IsTurn d node step turn → Some more ≡ opened_after turn.visit opened → upcoming d node step opened ≡ turn.visit ∷ upcoming d turn.node turn.step more
+turned d node opened more step turn numbering t e =
+    upcoming-first d node opened step turn t ∙ (ap (λ (o : Option ℕ). map (visit_of d) (option_map_or (λ n. seen d turn.visit ∷ within n (visits_left d turn.node turn.step)) o [])) (sym e) ∙ ap (λ (v : Visit). v ∷ upcoming d turn.node turn.step more) (visit_of-seen d turn.visit numbering t.visit))
+
+pub few-opened : (d : Document) (node opened : ℕ) (step : Step) → IsAt d node step opened → opened ≤ depth_limit
+few-opened d node opened step at =
+    let shallow = at.named.shallow node at.live in omega (arith, shallow, few step at.on_the_way)
+  where
+    few : (step : Step) → opened ≤ nodes_open d node step → opened ≤ suc (length (place_of d node))
+    few Before h = omega (arith, h)
+    few Entered h = h
+    few Left h = omega (arith, h)
 
 -- A visit to a live node sees this.
 record IsBack (d : Document) (s : Seen) : Type 0 where
@@ -91,12 +111,53 @@ live-visits d [] back = λ k x h. absurd (omega arith)
 live-visits d (s ∷ rest) back =
     All-cons (IsLive d) (visit_of d s) (map (visit_of d) rest) ((back 0 s (omega arith)).live) (live-visits d rest (λ k x h. back (suc k) x (omega arith)))
 
+-- What is seen of trees ends no node that did not begin among them.
+within-below : (ts : Trees) (p : Place) (k opened : ℕ) (more : List Seen) → within opened (visits_below ts p k ++ more) ≡ visits_below ts p k ++ within opened more
+within-below none p k opened more = refl
+within-below (tree name properties children rest) p k opened more =
+    let q : Place = p ++ k ∷ [] in
+    let below : List Seen = visits_below children q 0 in
+    let later : List Seen = visits_below rest p (k + 1) in
+    ap (λ (vs : List Seen). begins q name properties ∷ vs) (ap (within (suc opened)) (append_assoc below (ends ∷ later) more) ∙ (within-below children q 0 (suc opened) (ends ∷ (later ++ more)) ∙ (ap (λ (vs : List Seen). below ++ ends ∷ vs) (within-below rest p (k + 1) opened more) ∙ sym (append_assoc below (ends ∷ later) (within opened more)))))
+
+within-whole : (t : Tree) → within 0 (visits t) ≡ visits t
+within-whole t =
+    ap (λ (vs : List Seen). begins [] t.name t.properties ∷ vs) (within-below t.children [] 0 1 (ends ∷ []))
+
+upcoming-whole : (d : Document) (root : ℕ) → place_of d root ≡ [] → upcoming d root Before 0 ≡ map (visit_of d) (visits d.tree)
+upcoming-whole d root place =
+    ap (λ (all : List Seen). map (visit_of d) (within 0 all)) (before-root d root place) ∙ ap (map (visit_of d)) (within-whole d.tree)
+
 -- A walk that stands before the root sees the whole tree.
-pub sees-all : (d : Document) (root : ℕ) → IsNumbering d → place_of d root ≡ [] → map (seen d) (upcoming d root Before) ≡ visits d.tree
+pub sees-all : (d : Document) (root : ℕ) → IsNumbering d → place_of d root ≡ [] → map (seen d) (upcoming d root Before 0) ≡ visits d.tree
 sees-all d root numbering place =
-    ap (λ (all : List Seen). map (seen d) (map (visit_of d) all)) (before-root d root place) ∙ seen-visits d (visits d.tree) (backs-whole d numbering)
+    ap (map (seen d)) (upcoming-whole d root place) ∙ seen-visits d (visits d.tree) (backs-whole d numbering)
 
 -- All nodes that it enters are live.
-pub lives-all : (d : Document) (root : ℕ) → IsNumbering d → place_of d root ≡ [] → All (IsLive d) (upcoming d root Before)
+pub lives-all : (d : Document) (root : ℕ) → IsNumbering d → place_of d root ≡ [] → All (IsLive d) (upcoming d root Before 0)
 lives-all d root numbering place =
-    subst (λ (all : List Seen). All (IsLive d) (map (visit_of d) all)) (sym (before-root d root place)) (live-visits d (visits d.tree) (backs-whole d numbering))
+    subst (All (IsLive d)) (sym (upcoming-whole d root place)) (live-visits d (visits d.tree) (backs-whole d numbering))
+
+-- What is seen below a node.
+abbrev seen_below : Document → ℕ → List Seen
+seen_below d node = visits_below (children_of d node) (place_of d node) 0
+
+backs-at : (d : Document) (node : ℕ) → IsNumbering d → node < length d.places → All (IsBack d) (seen_below d node)
+backs-at d node numbering live =
+    let u = stands d node numbering live in
+    let children : u.0.children ≡ children_of d node = ap (λ (o : Option Tree). option_map_or (λ n. n.children) o none) (sym u.1) in
+    subst (λ (ts : Trees). All (IsBack d) (visits_below ts (place_of d node) 0)) children (backs-below d numbering u.0.children (place_of d node) 0 (λ j r. let inner : 0 + j ≡ j = omega arith in ap (λ n. at d.tree (place_of d node ++ n ∷ r)) inner ∙ at-below d.tree (place_of d node) (j ∷ r) u.0 u.1))
+
+upcoming-below : (d : Document) (node : ℕ) → upcoming d node Entered 0 ≡ map (visit_of d) (seen_below d node)
+upcoming-below d node =
+    ap (map (visit_of d)) (within-below (children_of d node) (place_of d node) 0 0 _ ∙ append-nil (seen_below d node))
+
+-- A walk that begins inside a node sees what is below it.
+pub sees-below : (d : Document) (node : ℕ) → IsNumbering d → node < length d.places → map (seen d) (upcoming d node Entered 0) ≡ seen_below d node
+sees-below d node numbering live =
+    ap (map (seen d)) (upcoming-below d node) ∙ seen-visits d (seen_below d node) (backs-at d node numbering live)
+
+-- All nodes that it enters are live.
+pub lives-below : (d : Document) (node : ℕ) → IsNumbering d → node < length d.places → All (IsLive d) (upcoming d node Entered 0)
+lives-below d node numbering live =
+    subst (All (IsLive d)) (sym (upcoming-below d node)) (live-visits d (seen_below d node) (backs-at d node numbering live))

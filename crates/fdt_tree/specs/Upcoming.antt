@@ -1,7 +1,7 @@
 -- What is still to come on a walk, by the node at which it stands.
-use Rattle.std.specs.Prelude.{◌<◌, ℕ, zero, suc, ◌+◌, List, [], ◌∷◌, ◌++◌, if◌then◌else◌, length, map, bytes_eq}
+use Rattle.std.specs.Prelude.{◌<◌, ◌≤◌, ℕ, zero, suc, ◌+◌, List, [], ◌∷◌, ◌++◌, if◌then◌else◌, length, map, bytes_eq}
 use Rattle.fdt_tree.specs.Tree.{Trees, none, tree, Tree, Place}
-use Rattle.fdt_tree.specs.Document.{Document, place_of, name_of, properties_of, children_of, IsNumbering}
+use Rattle.fdt_tree.specs.Document.{Document, place_of, name_of, properties_of, children_of, IsNumbering, IsNamed}
 use Rattle.fdt_tree.specs.Visits.{Seen, begins, ends, visits_below}
 use Rattle.fdt_tree.specs.declared.walk.Step.{Step}
 use Rattle.fdt_tree.specs.declared.walk.Step.TheVariants.{Before, Entered, Left}
@@ -42,11 +42,26 @@ abbrev pub visit_of : Document → Seen → Visit
 visit_of d (begins place name properties) = Enter (number_in d.places place)
 visit_of d ends = Leave
 
--- The visits that are to come, where a walk stands at a node.
-abbrev pub upcoming : Document → ℕ → Step → List Visit
-upcoming d node step = map (visit_of d) (visits_left d node step)
+-- How many nodes are entered and not yet left on a walk over the whole tree, where it stands at a node.
+abbrev pub nodes_open : Document → ℕ → Step → ℕ
+nodes_open d node Before = length (place_of d node)
+nodes_open d node Entered = suc (length (place_of d node))
+nodes_open d node Left = length (place_of d node)
 
--- A walk stands at a node of the tree.
-pub record IsAt (d : Document) (node : ℕ) : Type 0 where
+-- What is seen before a node ends that did not begin here, where so many nodes have begun and not yet ended.
+abbrev pub within : ℕ → List Seen → List Seen
+within opened [] = []
+within opened (begins place name properties ∷ rest) = begins place name properties ∷ within (suc opened) rest
+within zero (ends ∷ rest) = []
+within (suc opened) (ends ∷ rest) = ends ∷ within opened rest
+
+-- The visits that are to come, where a walk stands at a node and so many nodes are entered and not yet left.
+abbrev pub upcoming : Document → ℕ → Step → ℕ → List Visit
+upcoming d node step opened = map (visit_of d) (within opened (visits_left d node step))
+
+-- A walk stands at a node of the tree, and has entered no more nodes than are on the way to it.
+pub record IsAt (d : Document) (node : ℕ) (step : Step) (opened : ℕ) : Type 0 where
   pub numbered : IsNumbering d
+  pub named : IsNamed d
   pub live : node < length d.places
+  pub on_the_way : opened ≤ nodes_open d node step

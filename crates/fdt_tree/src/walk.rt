@@ -1,9 +1,10 @@
 // The nodes of a tree in document order.
-ghost use Rattle.std.specs.Prelude.{◌≡◌, ◌<◌, [], length, map, All, IfNone, IfSome};
-ghost use Rattle.fdt_tree.specs.Document.{IsNumbering};
-ghost use Rattle.fdt_tree.specs.Visits.{visits, entered, seen, IsLive};
+ghost use Rattle.std.specs.Prelude.{◌≡◌, ◌<◌, ◌≤◌, [], length, map, All, IfNone, IfSome};
+ghost use Rattle.fdt_tree.specs.Tree.{depth_limit};
+ghost use Rattle.fdt_tree.specs.Document.{place_of, children_of, IsNumbering};
+ghost use Rattle.fdt_tree.specs.Visits.{visits, visits_below, entered, seen, IsLive};
 ghost use Rattle.fdt_tree.specs.Upcoming.{visits_left};
-ghost use Rattle.fdt_tree.specs.PrivateTurns.{IsTurn};
+ghost use Rattle.fdt_tree.specs.PrivateTurns.{opened_after, IsTurn};
 ghost use Rattle.fdt_tree.specs.declared.walk.Step.TheVariants.{Entered, Left};
 
 use crate::node_id::NodeId;
@@ -42,13 +43,16 @@ pub(crate) enum Step {
     Left,
 }
 
-/// A walk over a whole tree in document order (Devicetree Specification 0.4, 5.4.2): each node is entered, then its
-/// children are visited in their order, then it is left. Takes no memory. Contracts see the visits that are to come.
+/// A walk over a whole tree, or over the nodes below one of its nodes, in document order (Devicetree Specification 0.4,
+/// 5.4.2): each node is entered, then its children are visited in their order, then it is left. Takes no memory, and time
+/// in what is visited alone. Contracts see the visits that are to come.
 #[derive(Drop)]
 pub struct Walk<'a> {
     tree: &'a Tree,
     node: NodeId,
     step: Step,
+    /// How many nodes are entered and not yet left. The walk ends before it leaves a node that it did not enter.
+    opened: usize,
 }
 
 impl<'a> Model for Walk<'a> {
@@ -59,9 +63,9 @@ impl<'a> Model for Walk<'a> {
 
     ghost use Rattle.fdt_tree.specs.Upcoming.{upcoming, IsAt};
 
-    ghost view = { λ walk. upcoming walk.tree.now walk.node walk.step };
+    ghost view = { λ walk. upcoming walk.tree.now walk.node walk.step walk.opened };
 
-    ghost invariant = { λ walk. IsAt walk.tree.now walk.node };
+    ghost invariant = { λ walk. IsAt walk.tree.now walk.node walk.step walk.opened };
 }
 
 impl<'a> Walk<'a> {
@@ -71,10 +75,28 @@ impl<'a> Walk<'a> {
         ensures live { All (IsLive tree.now) result }
     {
         tree.numbering();
+        tree.names();
         Walk {
             tree,
             node: tree.root(),
             step: Step::Before,
+            opened: 0,
+        }
+    }
+
+    /// A walk over all nodes below a node, which is itself neither entered nor left.
+    pub fn below(tree: &'a Tree, node: NodeId) -> Walk<'a>
+        requires { node < length tree.now.places }
+        ensures visits { map (seen tree.now) result ≡ visits_below (children_of tree.now node) (place_of tree.now node) 0 }
+        ensures live { All (IsLive tree.now) result }
+    {
+        tree.numbering();
+        tree.names();
+        Walk {
+            tree,
+            node,
+            step: Step::Entered,
+            opened: 0,
         }
     }
 }
@@ -137,6 +159,18 @@ fn turn_past(tree: &Tree, node: NodeId) -> Option<Turn>
     }
 }
 
+/// How many nodes are entered and not yet left after a visit, where so many were before it; none where it leaves a node
+/// that was not entered.
+fn opened_after(visit: Visit, opened: usize) -> Option<usize>
+    requires { opened ≤ depth_limit }
+    ensures { result ≡ opened_after visit opened }
+{
+    match visit {
+        Visit::Enter(_) => Some(opened + 1),
+        Visit::Leave => opened.checked_sub(1),
+    }
+}
+
 /// The next turn of a walk that stands at a node, if there is one.
 fn next_turn(tree: &Tree, node: NodeId, step: Step) -> Option<Turn>
     requires live { node < length tree.now.places }
@@ -161,11 +195,15 @@ impl<'a> Iterator for Walk<'a> {
     ghost remaining = { item_count (λ walk. walk) };
 
     fn next(&mut self) -> Option<Visit> {
-        match next_turn(self.tree, self.node, self.step) {
+        let Some(turn) = next_turn(self.tree, self.node, self.step) else {
+            return None;
+        };
+        match opened_after(turn.visit, self.opened) {
             None => None,
-            Some(turn) => {
+            Some(opened) => {
                 self.node = turn.node;
                 self.step = turn.step;
+                self.opened = opened;
                 Some(turn.visit)
             }
         }

@@ -1,7 +1,7 @@
 -- The definitions on small lists, computed.
 use Rattle.std.proofs.Common.{◌≡◌, [], ◌∷◌, Some, None, refl}
 use Rattle.dl_base.specs.Consecutive.{numbers, is_in}
-use Rattle.frame_alloc.specs.Frames.{frames_in, lowest_frame, lowest_pair, lowest_group, without}
+use Rattle.frame_alloc.specs.Frames.{frames_in, lowest_frame, lowest_run, lowest_pair, lowest_group, without}
 
 touching_ranges : frames_in (record { first = 1; count = 2 } ∷ record { first = 3; count = 0 } ∷ record { first = 3; count = 1 } ∷ []) ≡ 1 ∷ 2 ∷ 3 ∷ []
 unfolding numbers
@@ -30,6 +30,14 @@ group_of_four = refl
 group_across_a_gap : lowest_group 4 (4 ∷ 5 ∷ 6 ∷ 8 ∷ 9 ∷ 10 ∷ 11 ∷ []) ≡ Some 8
 unfolding lowest_group is_in numbers
 group_across_a_gap = refl
+
+run_after_shorter_ones : lowest_run 3 (1 ∷ 3 ∷ 4 ∷ 6 ∷ 7 ∷ 8 ∷ 9 ∷ []) ≡ Some 6
+unfolding lowest_run is_in numbers
+run_after_shorter_ones = refl
+
+no_run_across_gaps : lowest_run 3 (1 ∷ 2 ∷ 4 ∷ 5 ∷ 7 ∷ []) ≡ None
+unfolding lowest_run is_in numbers
+no_run_across_gaps = refl
 
 left_of_a_pair : without 2 2 (numbers 1 9) ≡ 1 ∷ 4 ∷ 5 ∷ 6 ∷ 7 ∷ 8 ∷ 9 ∷ []
 unfolding without numbers

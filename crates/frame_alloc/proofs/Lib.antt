@@ -3,11 +3,14 @@ pub mod AscendingFrames
 pub mod Changes
 pub mod Cuts
 pub mod ExtentLemmas
+pub mod ExtentMembers
 pub mod FreeFrames
 pub mod Fronts
 pub mod GroupLemmas
 pub mod Instances
 pub mod Linking
+pub mod LowestGroups
+pub mod LowestRuns
 pub mod PairLemmas
 pub mod Removals
 pub mod Searches

@@ -39,9 +39,17 @@ without first count frames = filter (λ frame. not (is_within first count frame)
 abbrev pub lowest_frame : List ℕ → Option ℕ
 lowest_frame frames = slice_get frames 0
 
--- whether a group begins at a frame: it is a multiple of the group's size, and that many consecutive frames from it on are free
+-- whether a run begins at a frame: that many consecutive frames from it on are free
+abbrev pub begins_run : ℕ → List ℕ → ℕ → Bool
+begins_run count frames first = list_all (is_in frames) (numbers first count)
+
+-- the first frame of the lowest run of so many consecutive frames
+unfoldable pub lowest_run : ℕ → List ℕ → Option ℕ
+lowest_run count frames = find (begins_run count frames) frames
+
+-- whether a group begins at a frame: a run of its size that begins at a multiple of it
 abbrev pub begins_group : ℕ → List ℕ → ℕ → Bool
-begins_group size frames first = (first % size == 0) && list_all (is_in frames) (numbers first size)
+begins_group size frames first = (first % size == 0) && begins_run size frames first
 
 -- the first frame of the lowest group of a size
 unfoldable pub lowest_group : ℕ → List ℕ → Option ℕ

@@ -1,10 +1,10 @@
 // The pool of free host frames.
-ghost use Rattle.std.specs.Prelude.{◌≡◌, ◌+◌, ◌^◌, ◌<◌, ◌≤◌, drop, length, Some, None, IfOk, IfErr, OnOk, OnErr};
-ghost use Rattle.frame_alloc.specs.Frames.{frames_in, AreFrameRanges, AreFrames, without, lowest_frame, lowest_chunk, lowest_pair, chunk_count};
+ghost use Rattle.std.specs.Prelude.{◌≡◌, ◌+◌, ◌^◌, ◌<◌, ◌≤◌, ◌⊎◌, drop, length, Some, None, Err, IfOk, IfErr, OnOk, OnErr};
+ghost use Rattle.frame_alloc.specs.Frames.{frames_in, AreFrameRanges, AreFrames, without, lowest_frame, lowest_run, lowest_chunk, lowest_pair, chunk_count};
 
 use crate::extent_list::ExtentList;
 use crate::extents::{extents_of, frame_count};
-use crate::groups::{CHUNK_SIZE, PAIR_SIZE, chunks_in, lowest_group};
+use crate::groups::{CHUNK_SIZE, PAIR_SIZE, chunks_in, lowest_group, lowest_run};
 use crate::removal::{remove_range, take_lowest};
 use dl_base::{FrameRange, List};
 use std::alloc::{AllocError, Global};
@@ -17,6 +17,8 @@ pub enum PoolFault {
     NoChunk,
     /// No two consecutive frames from an even one on are free.
     NoPair,
+    /// No run of so many consecutive frames is free.
+    NoRun,
     /// There is no memory for one more extent, as a split would need.
     Memory,
 }
@@ -63,8 +65,8 @@ impl FramePool {
         })
     }
 
-    /// Makes room for `extents` more extents: for as many calls of `carve`, `take_chunk` and `take_pair`, each of which
-    /// adds one at most. Want of memory comes only where there is less room than that, and the free frames stay.
+    /// Makes room for `extents` more extents: for as many calls of `carve`, `take_run`, `take_chunk` and `take_pair`, each
+    /// of which adds one at most. Want of memory comes only where there is less room than that, and the free frames stay.
     pub fn reserve(&mut self, extents: u64) -> Result<(), AllocError>
         ensures same { self.new.free ≡ self.old.free }
         ensures grown { self.old.spare ≤ self.new.spare }
@@ -87,13 +89,32 @@ impl FramePool {
         remove_range(&mut self.extents, range.first, range.count)
     }
 
+    /// Takes the lowest run of `count` consecutive free frames away, and answers its first frame. NoRun exactly where there
+    /// is none. Memory comes only where nothing is spare. A refusal changes nothing.
+    pub fn take_run(&mut self, count: u64) -> Result<u64, PoolFault>
+        requires { 0 < count }
+        ensures run { IfOk result (λ first. lowest_run count self.old.free ≡ Some first) }
+        ensures ok { IfOk result (λ first. self.new.free ≡ without first count self.old.free) }
+        ensures none { IfErr result (λ fault. fault ≡ PoolFault.NoRun → lowest_run count self.old.free ≡ None) }
+        ensures missing { lowest_run count self.old.free ≡ None → result ≡ Err PoolFault.NoRun }
+        ensures only { IfErr result (λ fault. (fault ≡ PoolFault.NoRun) ⊎ (fault ≡ PoolFault.Memory)) }
+        ensures room { IfErr result (λ fault. fault ≡ PoolFault.Memory → self.old.spare ≡ 0) }
+        ensures err { OnErr result (self.new ≡ self.old) }
+        ensures spare { self.old.spare ≤ self.new.spare + 1 }
+    {
+        let first = lowest_run(&self.extents, count).ok_or(PoolFault::NoRun)?;
+        remove_range(&mut self.extents, first, count)?;
+        Ok(first)
+    }
+
     /// Takes the lowest chunk away, and answers its first frame: 512 consecutive free frames, the first a multiple of
     /// 512. NoChunk exactly where there is none. Memory comes only where nothing is spare. A refusal changes nothing.
     pub fn take_chunk(&mut self) -> Result<u64, PoolFault>
         ensures chunk { IfOk result (λ first. lowest_chunk self.old.free ≡ Some first) }
         ensures ok { IfOk result (λ first. self.new.free ≡ without first 512 self.old.free) }
         ensures none { IfErr result (λ fault. fault ≡ PoolFault.NoChunk → lowest_chunk self.old.free ≡ None) }
-        ensures no_pair { IfErr result (λ fault. fault ≡ PoolFault.NoPair → ⊥) }
+        ensures missing { lowest_chunk self.old.free ≡ None → result ≡ Err PoolFault.NoChunk }
+        ensures only { IfErr result (λ fault. (fault ≡ PoolFault.NoChunk) ⊎ (fault ≡ PoolFault.Memory)) }
         ensures room { IfErr result (λ fault. fault ≡ PoolFault.Memory → self.old.spare ≡ 0) }
         ensures err { OnErr result (self.new ≡ self.old) }
         ensures spare { self.old.spare ≤ self.new.spare + 1 }
@@ -109,7 +130,8 @@ impl FramePool {
         ensures pair { IfOk result (λ first. lowest_pair self.old.free ≡ Some first) }
         ensures ok { IfOk result (λ first. self.new.free ≡ without first 2 self.old.free) }
         ensures none { IfErr result (λ fault. fault ≡ PoolFault.NoPair → lowest_pair self.old.free ≡ None) }
-        ensures no_chunk { IfErr result (λ fault. fault ≡ PoolFault.NoChunk → ⊥) }
+        ensures missing { lowest_pair self.old.free ≡ None → result ≡ Err PoolFault.NoPair }
+        ensures only { IfErr result (λ fault. (fault ≡ PoolFault.NoPair) ⊎ (fault ≡ PoolFault.Memory)) }
         ensures room { IfErr result (λ fault. fault ≡ PoolFault.Memory → self.old.spare ≡ 0) }
         ensures err { OnErr result (self.new ≡ self.old) }
         ensures spare { self.old.spare ≤ self.new.spare + 1 }

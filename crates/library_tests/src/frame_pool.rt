@@ -25,6 +25,21 @@ fn draws_a_chunk_a_pair_and_frames(rt: HostRuntime) -> Result<(), Fail> {
 }
 
 #[test]
+fn runs_are_the_lowest_that_are_long_enough(rt: HostRuntime) -> Result<(), Fail> {
+    let mut ranges = List::new(rt.alloc());
+    ranges.push(FrameRange { first: 0, count: 2 })?;
+    ranges.push(FrameRange { first: 3, count: 5 })?;
+    let mut pool = FramePool::new(rt.alloc(), &ranges)?;
+    pool.reserve(1)?;
+    assert_eq!(rt; pool.take_run(3), Ok(3));
+    assert_eq!(rt; pool.take_run(2), Ok(0));
+    assert_eq!(rt; pool.take_run(3), Err(PoolFault::NoRun));
+    assert_eq!(rt; pool.take_run(2), Ok(6));
+    assert_eq!(rt; pool.free_frames(), 0);
+    Ok(())
+}
+
+#[test]
 fn holes_in_every_eight_frames_leave_pairs_and_no_chunk(rt: HostRuntime) -> Result<(), Fail> {
     let mut ranges = List::new(rt.alloc());
     ranges.push(FrameRange {

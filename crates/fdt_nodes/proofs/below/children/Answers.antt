@@ -10,12 +10,12 @@ next_sibling-next-requires c = c.loop-next.invariant.next c.in-Some.child c.in-S
 pub loop-next-smaller : goal.loop-next-smaller
 loop-next-smaller c =
     children_fewer c.args.tree.now _ _ c.loop-next.next _ c.in-Some.child c.loop-next.invariant c.in-Some.is
-    (record { live = c.next_sibling-next.ensures.live; later = c.next_sibling-next.ensures.later; place = c.next_sibling-next.ensures.place })
+    (record { live = c.next_sibling-next.ensures.live; place = c.next_sibling-next.ensures.place })
 
 pub loop-next-preserved : goal.loop-next-preserved
 loop-next-preserved c =
     children_more c.args.tree.now _ _ _ c.loop-next.next _ c.in-Some.child c.loop-next.invariant c.in-Some.is c.in_ok-push.ensures.ok
-    (record { live = c.next_sibling-next.ensures.live; later = c.next_sibling-next.ensures.later; place = c.next_sibling-next.ensures.place })
+    (record { live = c.next_sibling-next.ensures.live; place = c.next_sibling-next.ensures.place })
 
 pub returns : goal.returns
 returns c = children_none c.args.tree.now _ _ c.loop-next.next c.in_default.is c.loop-next.invariant

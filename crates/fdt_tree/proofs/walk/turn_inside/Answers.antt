@@ -1,8 +1,8 @@
-use Rattle.std.proofs.Common.{sym, subst}
+use Rattle.std.proofs.Common.{suc, Some, refl, sym, ap, subst}
 use Rattle.fdt_tree.specs.PrivateTurns.{IsTurn}
 use Rattle.fdt_tree.specs.declared.walk.Step.TheVariants.{Entered}
 use Rattle.fdt_tree.specs.declared.walk.Turn.{Turn}
-use Rattle.fdt_tree.proofs.Walking.{child-next, no-child-next}
+use Rattle.fdt_tree.proofs.Walking.{child-next, no-child-next, child-deeper}
 use Rattle.fdt_tree.proofs.walk.turn_inside.Goals as goal
 
 pub returns-in-Some : goal.returns-in-Some
@@ -12,6 +12,7 @@ returns-in-Some c =
       first = child-next d c.args.node c.in-Some.child c.requires.numbered c.requires.live c.in-Some.ensures.live (cc c.in-Some.ensures.place);
       visit = c.in-Some.ensures.live;
       live = c.in-Some.ensures.live;
+      opened = ap (λ n. Some (suc n)) (sym (child-deeper d c.args.node c.in-Some.child (cc c.in-Some.ensures.place)));
     })
 
 pub returns-in-None : goal.returns-in-None
@@ -21,4 +22,5 @@ returns-in-None c =
       first = no-child-next d c.args.node c.requires.numbered c.requires.live (cc c.in-None.ensures.place);
       visit = tt;
       live = c.requires.live;
+      opened = refl;
     })
