@@ -6,6 +6,7 @@ pub mod Fine
 pub mod Counted
 pub mod Steps
 pub mod Kept
+pub mod NameLengths
 pub mod Turns
 pub mod Texts
 pub mod Reserved

@@ -1,5 +1,4 @@
 -- For proofs and private contracts alone: the token that a piece of the input is.
-use Rattle.std.specs.Prelude.{option_copied}
 use Rattle.fdt_read.specs.declared.tokens.Found.{Found}
 use Rattle.fdt_read.specs.declared.tokens.Found.TheVariants.{Begin, EndNode, Property, Nop, End, Broken}
 use Rattle.fdt_read.specs.Tokens.{Token, begin_node, end_node, property, nop, end, broken}
@@ -8,7 +7,7 @@ use Rattle.fdt_read.specs.Tokens.{Token, begin_node, end_node, property, nop, en
 abbrev pub meant : Found → Token
 meant (Begin name) = begin_node name.now
 meant EndNode = end_node
-meant (Property name value) = property (option_copied name) value.now
+meant (Property name value) = property name value
 meant Nop = nop
 meant End = end
 meant Broken = broken

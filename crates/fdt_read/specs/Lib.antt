@@ -8,3 +8,4 @@ pub mod Laws
 pub mod Found
 pub mod Built
 pub mod FaultTexts
+pub mod PrivateStrings

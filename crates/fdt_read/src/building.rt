@@ -5,7 +5,7 @@ ghost use Rattle.fdt_read.specs.Found.{meant};
 ghost use Rattle.fdt_read.specs.Tokens.{Token, begin_node, end_node, property, nop, is_final};
 
 use crate::tokens::Found;
-use fdt_tree::{NodeId, Tree};
+use fdt_tree::{Excerpt, NodeId, Tree};
 use std::alloc::AllocError;
 
 /// A tree that is being read: its open node, and what is known of the tokens so far.
@@ -65,7 +65,7 @@ fn begin(building: &mut Building, name: &[u8]) -> Result<(), AllocError>
 }
 
 /// Gives the open node a last property.
-fn give(building: &mut Building, name: &[u8], value: &[u8]) -> Result<(), AllocError>
+fn give(building: &mut Building, name: &Excerpt, value: &Excerpt) -> Result<(), AllocError>
     requires built { (done : List Token) × IsBuilding done building.old }
     requires fine { IsFine building.old (property (Some name.now) value.now) }
     requires no_nul { IsTrue (has_no_nul name.now) }
@@ -75,7 +75,7 @@ fn give(building: &mut Building, name: &[u8], value: &[u8]) -> Result<(), AllocE
     let Some(node) = building.current else {
         return Err(AllocError);
     };
-    building.tree.add_prop(node, name, value)
+    building.tree.add_shared_prop(node, name, value)
 }
 
 /// Takes a token that has no fault and is not the last.

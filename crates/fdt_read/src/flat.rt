@@ -11,11 +11,12 @@ ghost use Rattle.fdt_read.specs.Tokens.{tokens};
 use crate::fault::FdtFault;
 use crate::header::layout_fault;
 use crate::reservations::listed;
+use crate::strings::Strings;
 use crate::structure::structure;
 use crate::words::word_of;
-use dl_base::List;
+use dl_base::{Bytes, List};
 use fdt_tree::{Reserve, Tree};
-use std::alloc::Global;
+use std::alloc::{AllocError, Global};
 
 /// What a flattened device tree says.
 #[derive(Drop)]
@@ -48,6 +49,15 @@ fn reserves_of(alloc: Global, bytes: &[u8]) -> Result<List<Reserve>, FdtFault>
     }
 }
 
+/// A copy of a file, of which the properties that are read share their parts.
+fn shared(alloc: Global, bytes: &[u8]) -> Result<Bytes, AllocError>
+    ensures { IfOk result (λ copy. copy ≡ bytes.now) }
+{
+    let mut copy = Bytes::new(alloc);
+    copy.append(bytes)?;
+    copy.into_shared()
+}
+
 /// The tree, or the fault of the first token that is refused.
 fn tree_of(alloc: Global, bytes: &[u8]) -> Result<Tree, FdtFault>
     requires { IsLaidOut bytes.now }
@@ -58,15 +68,16 @@ fn tree_of(alloc: Global, bytes: &[u8]) -> Result<Tree, FdtFault>
 {
     let start = word_of(bytes, 8) as usize;
     let size = word_of(bytes, 36) as usize;
-    let strings = word_of(bytes, 12) as usize;
+    let strings_start = word_of(bytes, 12) as usize;
     let strings_size = word_of(bytes, 32) as usize;
-    structure(
-        alloc,
-        bytes,
-        &bytes[strings..strings + strings_size],
-        start,
-        size,
-    )
+    let file = match shared(alloc, bytes) {
+        Ok(file) => file,
+        Err(_) => return Err(FdtFault::Memory),
+    };
+    match Strings::new(alloc, &file, strings_start, strings_size) {
+        Ok(strings) => structure(alloc, &file, &strings, start, size),
+        Err(_) => Err(FdtFault::Memory),
+    }
 }
 
 /// What the file says, or its first fault: those of the header come first, then that of the reservations.

@@ -8,6 +8,7 @@ mod flat;
 mod header;
 pub mod laws;
 mod reservations;
+mod strings;
 mod structure;
 mod token_fault;
 mod tokens;

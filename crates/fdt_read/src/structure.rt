@@ -1,5 +1,5 @@
 // The structure block as a tree.
-ghost use Rattle.std.specs.Prelude.{◌≡◌, ◌⊎◌, OnOk, IfOk, IfErr, None, Some, [], ◌+◌, ◌≤◌, length};
+ghost use Rattle.std.specs.Prelude.{◌≡◌, ◌⊎◌, OnOk, IfOk, IfErr, None, Some, [], ◌+◌, ◌≤◌, ◌<◌, ◌^◌, length};
 ghost use Rattle.fdt_read.specs.Built.{IsWhole};
 ghost use Rattle.fdt_read.specs.Header.{strings_block};
 ghost use Rattle.fdt_read.specs.Refusals.{first_fault};
@@ -8,20 +8,23 @@ ghost use Rattle.fdt_read.specs.Tokens.{tokens_of_block};
 
 use crate::building::{Building, apply};
 use crate::fault::FdtFault;
+use crate::strings::Strings;
 use crate::token_fault::fault_of;
 use crate::tokens::{is_last, token};
+use dl_base::Bytes;
 use fdt_tree::Tree;
 use std::alloc::Global;
 
 /// Reads the tree of the structure block that begins at the offset `start` and has `size` bytes (5.4).
-pub fn structure(
+pub fn structure<'a>(
     alloc: Global,
-    bytes: &[u8],
-    strings: &[u8],
+    bytes: &'a Bytes,
+    strings: &Strings<'a>,
     start: usize,
     size: usize,
 ) -> Result<Tree, FdtFault>
     requires within { start + size ≤ length bytes.now }
+    requires short { start + size < 2 ^ 64 }
     requires names { strings.now ≡ strings_block bytes.now }
     ensures refused { IfErr result (λ fault. (fault ≡ FdtFault.Memory)
         ⊎ (first_fault [] (tokens_of_block bytes.now start size) ≡ Some fault)) }

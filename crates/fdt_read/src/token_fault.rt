@@ -69,7 +69,7 @@ pub fn fault_of(
             match name {
                 None => Some(FdtFault::Name(offset)),
                 Some(name) => {
-                    if name.is_empty() {
+                    if name.as_slice().is_empty() {
                         Some(FdtFault::Name(offset))
                     } else if past_child {
                         Some(FdtFault::Order(offset))

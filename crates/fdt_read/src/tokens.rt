@@ -1,22 +1,25 @@
 // Tokens of the structure block.
-ghost use Rattle.std.specs.Prelude.{◌≡◌, IsTrue, IfSome, false, ◌+◌, ◌≤◌, ◌<◌, ◌^◌, ◌==◌, length, drop, position, slice_range};
+ghost use Rattle.std.specs.Prelude.{◌≡◌, IsTrue, IfSome, false, ◌+◌, ◌≤◌, ◌<◌, ◌^◌, ◌==◌, length, position, slice_range};
 ghost use Rattle.std.specs.Option.{option_copied};
 ghost use Rattle.fdt_read.specs.Found.{meant};
 ghost use Rattle.fdt_read.specs.Built.{has_no_nul, ends_names};
 ghost use Rattle.fdt_read.specs.Header.{strings_block};
 ghost use Rattle.fdt_read.specs.Tokens.{is_final, token_at, property_at, begin_node_at, padded, text};
 
+use crate::strings::Strings;
 use crate::words::word_of;
+use dl_base::Bytes;
+use fdt_tree::Excerpt;
 
 /// A token, with what it holds of the input (5.4.1).
-#[derive(Clone, Copy)]
+#[derive(Drop)]
 pub enum Found<'a> {
     /// A node begins: its name.
     Begin(&'a [u8]),
     /// The open node ends.
     EndNode,
     /// A property: its name, if the strings block has it, and its value.
-    Property(Option<&'a [u8]>, &'a [u8]),
+    Property(Option<Excerpt<'a>>, Excerpt<'a>),
     Nop,
     End,
     /// No token stands here.
@@ -72,22 +75,10 @@ fn begin_at(bytes: &[u8], stop: usize, offset: usize) -> (Found, usize)
     }
 }
 
-/// The name at an offset of the strings block, if it is there and ends.
-fn name_of(strings: &[u8], offset: usize) -> Option<&[u8]>
-    ensures text { option_copied result ≡ text (drop offset strings.now) }
-    ensures no_nul { IfSome result (λ name. IsTrue (has_no_nul name.now)) }
-{
-    if offset < strings.len() {
-        text_of(&strings[offset..])
-    } else {
-        None
-    }
-}
-
 /// The PROP at an offset, and the offset past it.
 fn property_of<'a>(
-    bytes: &'a [u8],
-    strings: &'a [u8],
+    bytes: &'a Bytes,
+    strings: &Strings<'a>,
     stop: usize,
     offset: usize,
 ) -> (Found<'a>, usize)
@@ -100,23 +91,21 @@ fn property_of<'a>(
     if stop < 12 || stop - 12 < offset {
         return (Found::Broken, offset);
     }
-    let size = word_of(bytes, offset + 4) as usize;
-    let place = word_of(bytes, offset + 8) as usize;
+    let size = word_of(bytes.as_slice(), offset + 4) as usize;
+    let place = word_of(bytes.as_slice(), offset + 8) as usize;
     let next = offset + 12 + padded_of(size);
     if next > stop {
         return (Found::Broken, offset);
     }
-    let name = name_of(strings, place);
-    (
-        Found::Property(name, &bytes[offset + 12..offset + 12 + size]),
-        next,
-    )
+    let name = strings.name_at(place);
+    let value = Excerpt::new(bytes, offset + 12, offset + 12 + size);
+    (Found::Property(name, value), next)
 }
 
 /// The token at an offset of the structure block, which ends at `stop`, and the offset past it.
 pub fn token<'a>(
-    bytes: &'a [u8],
-    strings: &'a [u8],
+    bytes: &'a Bytes,
+    strings: &Strings<'a>,
     stop: usize,
     offset: usize,
 ) -> (Found<'a>, usize)
@@ -129,8 +118,8 @@ pub fn token<'a>(
     if stop < 4 || stop - 4 < offset {
         return (Found::Broken, offset);
     }
-    match word_of(bytes, offset) {
-        1 => begin_at(bytes, stop, offset),
+    match word_of(bytes.as_slice(), offset) {
+        1 => begin_at(bytes.as_slice(), stop, offset),
         2 => (Found::EndNode, offset + 4),
         3 => property_of(bytes, strings, stop, offset),
         4 => (Found::Nop, offset + 4),

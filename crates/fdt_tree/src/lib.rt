@@ -4,6 +4,7 @@
 
 mod cell_counts;
 mod edit_fault;
+mod excerpt;
 mod node;
 mod node_id;
 mod phandle_map;
@@ -16,6 +17,7 @@ mod walk;
 
 pub use cell_counts::{BadCells, cells};
 pub use edit_fault::EditFault;
+pub use excerpt::Excerpt;
 pub use node_id::NodeId;
 pub use phandle_map::{PhandleFault, PhandleMap, highest_phandle, phandles};
 pub use reserve::Reserve;

@@ -2,6 +2,7 @@
 ghost use Rattle.std.specs.Prelude.{◌≡◌, ◌<◌, length, OnOk, OnErr, IfSome};
 ghost use Rattle.fdt_tree.specs.PrivateLinks.{fresh, linked};
 
+use crate::excerpt::Held;
 use dl_base::Bytes;
 use std::alloc::AllocError;
 
@@ -25,8 +26,8 @@ pub(crate) struct Node {
 #[derive(Drop)]
 pub(crate) struct Slot {
     pub(crate) owner: usize,
-    pub(crate) name: Bytes,
-    pub(crate) value: Bytes,
+    pub(crate) name: Held,
+    pub(crate) value: Held,
     pub(crate) next: Option<usize>,
 }
 

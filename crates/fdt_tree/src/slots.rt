@@ -5,8 +5,8 @@ ghost use Rattle.fdt_tree.specs.Assembled.{IsChained, StandBeside, first_owned};
 ghost use Rattle.fdt_tree.specs.PrivateLinks.{chained_after, first_named_slot, from, modified, run_with, with_last_slot, with_value};
 ghost use Rattle.fdt_tree.specs.declared.node.Node.{Node};
 
+use crate::excerpt::Held;
 use crate::node::{Node, Slot};
-use dl_base::Bytes;
 use std::alloc::AllocError;
 
 /// Adds `slot` as the last one, and links it behind the slot `last`, if there is one. Memory is taken before the link is
@@ -156,7 +156,7 @@ pub(crate) fn slot_named(
 }
 
 /// Replaces the value of a slot. Takes no memory.
-pub(crate) fn put_value(slots: &mut Vec<Slot>, number: usize, value: Bytes)
+pub(crate) fn put_value(slots: &mut Vec<Slot>, number: usize, value: Held)
     requires { number < length slots.old.items }
     ensures { slots.new.items ≡ modified (with_value value) number slots.old.items }
 {

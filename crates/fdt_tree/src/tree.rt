@@ -7,6 +7,7 @@ ghost use Rattle.fdt_tree.specs.Document.{empty, place_of, name_of, properties_o
 ghost use Rattle.fdt_tree.specs.PathEdits.{mknod, set, set_property, with_child_at};
 
 use crate::edit_fault::EditFault;
+use crate::excerpt::{Excerpt, Held};
 use crate::node::{Node, Slot, alone, link};
 use crate::node_id::NodeId;
 use crate::pieces::cut;
@@ -136,13 +137,43 @@ impl Tree {
         ensures err { OnErr result (self.new ≡ self.old) }
     {
         let alloc = *self.nodes.allocator();
-        let mut held_name = Bytes::new(alloc);
-        held_name.append(name)?;
-        let mut value = Bytes::new(alloc);
-        value.append(bytes)?;
+        let held_name = Held::copied(alloc, name)?;
+        let value = Held::copied(alloc, bytes)?;
+        self.add_slot(node, held_name, value)
+    }
+
+    /// Adds a last property, whatever the names beside it, whose name and value are parts of bytes that the tree holds from
+    /// then on. Where these are shared, no memory is taken for the parts, however many properties have them. After want of
+    /// memory the tree is as it was.
+    pub fn add_shared_prop(
+        &mut self,
+        node: NodeId,
+        name: &Excerpt,
+        value: &Excerpt,
+    ) -> Result<(), AllocError>
+        requires live { node < length self.old.places }
+        requires property_name { IsTrue (is_property_name name.now) }
+        ensures ok { OnOk result (self.new ≡ with_property self.old (place_of self.old node) name.now value.now) }
+        ensures places { self.new.places ≡ self.old.places }
+        ensures err { OnErr result (self.new ≡ self.old) }
+    {
+        let alloc = *self.nodes.allocator();
+        let held_name = name.held(alloc)?;
+        let held_value = value.held(alloc)?;
+        self.add_slot(node, held_name, held_value)
+    }
+
+    /// Adds a last property with this name and this value.
+    fn add_slot(&mut self, node: NodeId, name: Held, value: Held) -> Result<(), AllocError>
+        requires live { node < length self.old.places }
+        requires property_name { IsTrue (is_property_name name) }
+        ensures ok { OnOk result (self.new ≡ with_property self.old (place_of self.old node) name value) }
+        ensures places { self.new.places ≡ self.old.places }
+        ensures err { OnErr result (self.new ≡ self.old) }
+    {
         let slot = Slot {
             owner: node.number,
-            name: held_name,
+            name,
             value,
             next: None,
         };
@@ -204,8 +235,7 @@ impl Tree {
         let first = self.nodes[node.number].first_property;
         match slot_named(self.slots.as_slice(), node.number, first, name) {
             Some(number) => {
-                let mut value = Bytes::new(*self.nodes.allocator());
-                value.append(bytes)?;
+                let value = Held::copied(*self.nodes.allocator(), bytes)?;
                 put_value(&mut self.slots, number, value);
                 Ok(())
             }

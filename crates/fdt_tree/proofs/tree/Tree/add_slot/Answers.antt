@@ -1,5 +1,4 @@
-use Rattle.std.proofs.Common.{suc, ◌≡◌, ◌++◌, ◌-◌, None, length, IsTrue, subst, refl, sym, ap, ◌∙◌, arith}
-use Rattle.fdt_tree.specs.Tree.{Bytes, is_property_name}
+use Rattle.std.proofs.Common.{suc, ◌≡◌, ◌-◌, None, length, refl, ap, ◌∙◌, arith}
 use Rattle.fdt_tree.specs.declared.node.Slot.{Slot}
 use Rattle.fdt_tree.specs.Document.{Document, place_of, with_property}
 use Rattle.fdt_tree.specs.Assembled.{document, IsLinked}
@@ -7,7 +6,7 @@ use Rattle.fdt_tree.specs.PrivateLinks.{modified, with_last_slot}
 use Rattle.fdt_tree.proofs.Links.{reads}
 use Rattle.fdt_tree.proofs.Chains.{last-live, length-after}
 use Rattle.fdt_tree.proofs.Additions.{after_slot, room}
-use Rattle.fdt_tree.proofs.tree.Tree.add_prop.Goals as goal
+use Rattle.fdt_tree.proofs.tree.Tree.add_slot.Goals as goal
 
 pub follow-requires : goal.follow-requires
 follow-requires c =
@@ -21,21 +20,19 @@ pub end_at-requires-clause-before : goal.end_at-requires-clause-before
 end_at-requires-clause-before c =
     λ m e. (room _ _ _ _ _ _ _ c.len-count.result c.index.result.now m _ _ c.self.invariant c.self.view_is c.node.view_is c.requires.live c.index.ensures e c.in_ok-follow.ensures.ok (c.len-count.ensures ∙ c.follow.new.slots.ok.0)).2
 
-added : (c : goal.After-end_at) → IsLinked (document c.end_at.new.nodes.items c.follow.new.slots.items) c.end_at.new.nodes.items c.follow.new.slots.items × (document c.end_at.new.nodes.items c.follow.new.slots.items ≡ with_property c.args.self.now (place_of c.args.self.now c.args.node) c.append.new.self c.append-2.new.self)
+added : (c : goal.After-end_at) → IsLinked (document c.end_at.new.nodes.items c.follow.new.slots.items) c.end_at.new.nodes.items c.follow.new.slots.items × (document c.end_at.new.nodes.items c.follow.new.slots.items ≡ with_property c.args.self.now (place_of c.args.self.now c.args.node) c.args.name c.args.value)
 added c =
     let f = reads _ _ _ _ _ _ _ c.self.invariant c.self.view_is c.node.view_is c.requires.live c.index.ensures in
-    let slot : Slot = record { owner = c.node.inside.number; name = c.append.new.self; value = c.append-2.new.self; next = None } in
+    let slot : Slot = record { owner = c.node.inside.number; name = c.args.name; value = c.args.value; next = None } in
     let long : c.len-count.result ≡ suc (length c.self.inside.slots.items) = c.len-count.ensures ∙ (c.follow.new.slots.ok.0 ∙ (ap length c.in_ok-follow.ensures.ok ∙ length-after c.index.result.now.last_property c.self.inside.slots.items slot)) in
     let number : c.len-count.result - 1 ≡ length c.self.inside.slots.items = omega (arith, long) in
-    let named : IsTrue (is_property_name c.append.new.self) = subst (λ (z : Bytes). IsTrue (is_property_name z)) (sym (c.in_ok-append.ensures.ok ∙ ap (λ z. z ++ c.args.name.now) c.new-held_name.ensures)) c.requires.property_name in
-    after_slot _ _ _ _ _ _ _ c.index.result.now _ slot c.self.invariant c.self.view_is c.node.view_is c.requires.live c.index.ensures refl refl refl (last-live c.args.node c.self.inside.slots.items c.index.result.now.last_property f.last_slot) named (c.end_at.ensures ∙ ap (λ k. modified (with_last_slot k) c.node.inside.number c.self.inside.nodes.items) number) c.in_ok-follow.ensures.ok
+    after_slot _ _ _ _ _ _ _ c.index.result.now _ slot c.self.invariant c.self.view_is c.node.view_is c.requires.live c.index.ensures refl refl refl (last-live c.args.node c.self.inside.slots.items c.index.result.now.last_property f.last_slot) c.requires.property_name (c.end_at.ensures ∙ ap (λ k. modified (with_last_slot k) c.node.inside.number c.self.inside.nodes.items) number) c.in_ok-follow.ensures.ok
 
 pub invariant_of-self-2 : goal.invariant_of-self-2
 invariant_of-self-2 c = (added c).0
 
 pub returns-clause-ok : goal.returns-clause-ok
-returns-clause-ok c =
-    let name : c.append.new.self ≡ c.args.name.now = c.in_ok-append.ensures.ok ∙ ap (λ z. z ++ c.args.name.now) c.new-held_name.ensures in let value : c.append-2.new.self ≡ c.args.bytes.now = c.in_ok-append-2.ensures.ok ∙ ap (λ z. z ++ c.args.bytes.now) c.new-value.ensures in (added c).1 ∙ (ap (λ z. with_property c.args.self.now (place_of c.args.self.now c.args.node) z c.append-2.new.self) name ∙ ap (λ z. with_property c.args.self.now (place_of c.args.self.now c.args.node) c.args.name.now z) value)
+returns-clause-ok c = (added c).1
 
 pub returns-clause-places : goal.returns-clause-places
 returns-clause-places c = ap (λ (d : Document). d.places) (added c).1
