@@ -55,16 +55,12 @@ fn word_at(bytes: &[u8], offset: usize) -> Option<u32>
     }
 }
 
-/// The bytes with another word at an offset.
-fn with_word(alloc: Global, bytes: &[u8], offset: usize, number: u32) -> Result<Bytes, AllocError>
-    requires { offset + 4 ≤ length bytes.now }
-    ensures { IfOk result (λ made. made ≡ with_word bytes.now offset number) }
+/// Puts another word at an offset.
+fn put_word(bytes: &mut [u8], offset: usize, number: u32)
+    requires { offset + 4 ≤ length bytes.old }
+    ensures { bytes.new ≡ with_word bytes.old offset number }
 {
-    let mut made = Bytes::new(alloc);
-    made.append(&bytes[..offset])?;
-    made.append(&number.to_be_bytes())?;
-    made.append(&bytes[offset + 4..])?;
-    Ok(made)
+    bytes[offset..offset + 4].copy_from_slice(&number.to_be_bytes());
 }
 
 /// The bytes with another word at an offset, where a word lies there.
@@ -80,23 +76,25 @@ pub(crate) fn replaced(
     match word_at(bytes, offset) {
         None => Err(ValueFault::Missing),
         Some(_) => {
-            let made = with_word(alloc, bytes, offset, number)?;
-            Ok(made)
+            let mut made = bytes.to_vec(alloc)?;
+            put_word(&mut made, offset, number);
+            Ok(Bytes::from(made))
         }
     }
 }
 
-/// The bytes with the word at an offset moved up.
-fn with_moved(alloc: Global, by: u32, bytes: &[u8], offset: usize) -> Result<Bytes, ValueFault>
-    ensures ok { IfOk result (λ made. with_moved by bytes.now offset ≡ Some made) }
-    ensures err { IfErr result (λ fault. (fault ≡ ValueFault.Memory) ⊎ ((fault ≡ ValueFault.Missing) × (with_moved by bytes.now offset ≡ None))) }
+/// The bytes with the word at an offset moved up in its place, where a word lies there that stays a phandle.
+fn with_moved(by: u32, bytes: Vec<u8>, offset: usize) -> Result<Vec<u8>, ValueFault>
+    ensures ok { IfOk result (λ made. with_moved by bytes.items offset ≡ Some made.items) }
+    ensures err { IfErr result (λ fault. (fault ≡ ValueFault.Memory) ⊎ ((fault ≡ ValueFault.Missing) × (with_moved by bytes.items offset ≡ None))) }
 {
-    match word_at(bytes, offset) {
+    let mut made = bytes;
+    match word_at(&made, offset) {
         None => Err(ValueFault::Missing),
         Some(number) => match moved(by, number) {
             None => Err(ValueFault::Missing),
             Some(sum) => {
-                let made = with_word(alloc, bytes, offset, sum)?;
+                put_word(&mut made, offset, sum);
                 Ok(made)
             }
         },
@@ -113,16 +111,15 @@ pub(crate) fn with_all_moved(
     ensures ok { IfOk result (λ made. with_all_moved by offsets.now bytes.now ≡ Some made) }
     ensures err { IfErr result (λ fault. (fault ≡ ValueFault.Memory) ⊎ ((fault ≡ ValueFault.Missing) × (with_all_moved by offsets.now bytes.now ≡ None))) }
 {
-    let mut made = Bytes::new(alloc);
-    made.append(bytes)?;
+    let mut made = bytes.to_vec(alloc)?;
     let mut rest = offsets;
     while let [a, b, c, d, later @ ..] = rest {
         let offset = u32::from_be_bytes([*a, *b, *c, *d]) as usize;
-        made = with_moved(alloc, by, made.as_slice(), offset)?;
+        made = with_moved(by, made, offset)?;
         rest = later;
     }
     if rest.is_empty() {
-        Ok(made)
+        Ok(Bytes::from(made))
     } else {
         Err(ValueFault::Missing)
     }
