@@ -1,0 +1,40 @@
+-- The three steps of an overlay, one after the other.
+use Rattle.std.proofs.Common.{◌≡◌, ◌∙◌, ◌⊎◌, inl, inr, ap, Result, Ok, Err}
+use Rattle.std.specs.Prelude.{IfOk, IfErr}
+use Rattle.fdt_tree.specs.Tree.{Tree}
+use Rattle.fdt_tree.specs.Document.{Document}
+use Rattle.fdt_overlay.specs.declared.fault.OverlayFault.{OverlayFault}
+use Rattle.fdt_overlay.specs.declared.fault.OverlayFault.TheVariants.{Memory}
+use Rattle.fdt_overlay.specs.Turns.{and_then}
+use Rattle.fdt_overlay.specs.Shift.{shifted}
+use Rattle.fdt_overlay.specs.Resolve.{resolved}
+use Rattle.fdt_overlay.specs.Merge.{merged}
+use Rattle.fdt_overlay.specs.Applied.{applied}
+
+-- the first step is refused
+pub shift-refused : (base overlay : Tree) (fault : OverlayFault) → (fault ≡ Memory) ⊎ (shifted base overlay ≡ Err fault) → (fault ≡ Memory) ⊎ (applied base overlay ≡ Err fault)
+shift-refused base overlay fault (inl memory) = inl memory
+shift-refused base overlay fault (inr refused) = inr (ap (λ (r : Result Tree OverlayFault). and_then r (λ above. and_then (resolved base above) (merged base))) refused)
+
+module _ (base overlay above : Tree) (one : shifted base overlay ≡ Ok above) where
+  first : applied base overlay ≡ and_then (resolved base above) (merged base)
+  first = ap (λ (r : Result Tree OverlayFault). and_then r (λ above. and_then (resolved base above) (merged base))) one
+
+  -- the second is
+  pub resolve-refused : (fault : OverlayFault) → (fault ≡ Memory) ⊎ (resolved base above ≡ Err fault) → (fault ≡ Memory) ⊎ (applied base overlay ≡ Err fault)
+  resolve-refused fault (inl memory) = inl memory
+  resolve-refused fault (inr refused) = inr (first ∙ ap (λ (r : Result Tree OverlayFault). and_then r (merged base)) refused)
+
+  module _ (known : Tree) (two : resolved base above ≡ Ok known) where
+    both : applied base overlay ≡ merged base known
+    both = first ∙ ap (λ (r : Result Tree OverlayFault). and_then r (merged base)) two
+
+    -- the third is, or it gives the tree
+    pub merge-made : {E : Type 0} (result : Result Document E) → IfOk result (λ made. merged base known ≡ Ok made.tree) → IfOk result (λ made. applied base overlay ≡ Ok made.tree)
+    merge-made (Ok made) is = both ∙ is
+    merge-made (Err fault) is = tt
+
+    pub merge-refused : {A : Type 0} (result : Result A OverlayFault) → IfErr result (λ fault. (fault ≡ Memory) ⊎ (merged base known ≡ Err fault)) → IfErr result (λ fault. (fault ≡ Memory) ⊎ (applied base overlay ≡ Err fault))
+    merge-refused (Ok made) refused = tt
+    merge-refused (Err fault) (inl memory) = inl memory
+    merge-refused (Err fault) (inr refused) = inr (both ∙ refused)

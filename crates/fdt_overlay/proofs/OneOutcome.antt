@@ -1,0 +1,47 @@
+-- The words and files that tell what they hold call for one outcome.
+use Rattle.std.proofs.Common.{◌≤◌, ◌<◌, ℕ, List, [], ◌∷◌, Option, Some, None, inl, inr, arith}
+use Rattle.dl_base.specs.Outside.{File}
+use Rattle.dl_base.specs.declared.status.Status.TheVariants as statuses
+use Rattle.fdt_tree.specs.Tree.{Tree}
+use Rattle.run_steps.specs.Laws.{IsDetermined}
+use Rattle.run_steps.specs.Steps.{IsRefusal}
+use Rattle.run_steps.specs.Trees.{AfterTreeFile}
+use Rattle.run_steps.proofs.OneOutcome.{Decides, both_decide, hand_on_decides, refusals_agree, writings_agree, on_result_decides, tree_file_decides}
+use Rattle.fdt_overlay.specs.Applied.{applied}
+use Rattle.fdt_overlay.specs.Lines.{fault_message}
+use Rattle.fdt_overlay.specs.Asked.{Asked, asked}
+use Rattle.fdt_overlay.specs.Overlays.{Made, made_of, AfterApplied, AfterOverlay, AfterOverlays, AfterAll}
+use Rattle.fdt_overlay.specs.Job.{IsOutput, IsWordsJob}
+use Rattle.fdt_overlay.specs.Laws.{IsOneOutcome}
+
+apart : (a b : ℕ) → a ≤ b → b < a → ⊥
+apart a b le lt = grind (arith)
+
+output_agrees : (out : List ℕ) (made : Made) → IsDetermined (IsOutput out made)
+output_agrees out made a b (inl p) (inl q) = refusals_agree _ _ a b p.1 q.1
+output_agrees out made a b (inl p) (inr q) = absurd (apart _ _ q.0 p.0)
+output_agrees out made a b (inr p) (inl q) = absurd (apart _ _ p.0 q.0)
+output_agrees out made a b (inr p) (inr q) = writings_agree _ _ a b p.1 q.1
+
+applied_decides : (name : List ℕ) (base overlay : Tree) → Decides (AfterApplied name base overlay)
+applied_decides name base overlay = on_result_decides (λ fault. IsRefusal statuses.Refused (fault_message name fault)) (λ fault. refusals_agree _ _) (applied base overlay)
+
+module _ (held : List File) where
+  overlay_decides : (name : List ℕ) (base : Tree) → Decides (AfterOverlay (Some held) name base)
+  overlay_decides name base = both_decide (AfterTreeFile (Some held) name) (λ overlay. AfterApplied name base overlay.root) (tree_file_decides held name) (λ overlay. applied_decides name base overlay.root)
+
+  overlays_decide : (names : List (List ℕ)) (base : Tree) → Decides (AfterOverlays (Some held) names base)
+  overlays_decide [] base = hand_on_decides base
+  overlays_decide (name ∷ names) base = both_decide (AfterOverlay (Some held) name base) (AfterOverlays (Some held) names) (overlay_decides name base) (overlays_decide names)
+
+  all_decide : (asked : Asked) → Decides (AfterAll (Some held) asked)
+  all_decide asked next determined =
+      tree_file_decides held asked.base _ (λ base. overlays_decide asked.overlays base.root _ (λ root. determined (made_of base root)))
+
+  words_agree : (asked : Option Asked) → IsDetermined (IsWordsJob (Some held) asked)
+  words_agree None = refusals_agree _ _
+  words_agree (Some asked) = all_decide asked (IsOutput asked.out) (output_agrees asked.out)
+
+-- no words and files call for two outcomes that differ
+pub one_outcome : IsOneOutcome
+one_outcome words held = words_agree held (asked words)

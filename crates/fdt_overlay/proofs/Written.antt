@@ -1,0 +1,79 @@
+-- What a run that ends with status 0 has written.
+use Rattle.std.proofs.Common.{◌≡◌, ◌≤◌, length, sym, subst, refl, ℕ, List, [], ◌∷◌, Bool, true, false, cond, Option, Some, inl, inr, arith}
+use Rattle.std.specs.Prelude.{◌⊎◌, IsTrue, not}
+use Rattle.std.specs.List.{list_all}
+use Rattle.std.proofs.lemmas.List.Sums.{take_while-cons}
+use Rattle.dl_base.specs.Outside.{File, Rose}
+use Rattle.fdt_tree.specs.Tree.{Tree}
+use Rattle.fdt_tree.specs.declared.reserve.Reserve.{Reserve}
+use Rattle.fdt_read.specs.Reservations.{pairs, reservations_block, before_last, is_last_pair}
+use Rattle.fdt_read.specs.Spells.{Spells}
+use Rattle.fdt_write.specs.Flattened.{length_limit}
+use Rattle.run_steps.specs.Endings.{Outcome, Builds, TakesBytes}
+use Rattle.run_steps.specs.Steps.{IsWriting}
+use Rattle.run_steps.proofs.Step.{found_by}
+use Rattle.fdt_overlay.specs.Asked.{Asked}
+use Rattle.fdt_overlay.specs.Overlays.{Made, AfterAll, IsMade}
+use Rattle.fdt_overlay.specs.PrivateSteps.{IsFound}
+use Rattle.fdt_overlay.specs.Job.{bytes_of, IsOutput, IsAskedJob}
+use Rattle.fdt_overlay.proofs.OverlaySteps.{all_step, is_made}
+
+-- a pair that does not end the list, before others
+one_more : (reserve : Reserve) (later : List Reserve) (test : Bool) → not (is_last_pair reserve) ≡ test → IsTrue (list_all (λ reserve. not (is_last_pair reserve)) later)
+    → IsTrue (list_all (λ reserve. not (is_last_pair reserve)) (cond test (reserve ∷ later) []))
+one_more reserve later true e ok = rw e ok
+one_more reserve later false e ok = refl
+
+-- the pairs before the one that ends the list do not end it
+all_before_last : (reserves : List Reserve) → IsTrue (list_all (λ reserve. not (is_last_pair reserve)) (before_last reserves))
+all_before_last [] = refl
+all_before_last (reserve ∷ later) =
+    rw (take_while-cons (λ (reserve : Reserve). not (is_last_pair reserve)) reserve later) (one_more reserve (before_last later) (not (is_last_pair reserve)) refl (all_before_last later))
+
+-- no reservation of a file that was read ends the list
+no_last_pairs : (bytes : List ℕ) (reserves : List Reserve) (boot : ℕ) (root : Tree) → Spells bytes reserves boot root → IsTrue (list_all (λ reserve. not (is_last_pair reserve)) reserves)
+no_last_pairs bytes reserves boot root spelled =
+    subst (λ (read : List Reserve). IsTrue (list_all (λ reserve. not (is_last_pair reserve)) read)) spelled.reserved (all_before_last (pairs (reservations_block bytes)))
+
+-- nor does one of what was made
+pub none_last : (told : Option (List File)) (asked : Asked) (made : Made) → IsMade told asked made → IsTrue (list_all (λ reserve. not (is_last_pair reserve)) made.reserves)
+none_last told asked made is =
+    let read = is.base_read in
+    subst (λ (reserves : List Reserve). IsTrue (list_all (λ reserve. not (is_last_pair reserve)) reserves)) (sym is.same_reserves) (no_last_pairs read.file is.base.reserves is.base.boot is.base.root read.flattened.spelled)
+
+by_length : (out : List ℕ) (made : Made) (outputs : List File) (said : List ℕ) → IsOutput out made (Builds outputs said) → outputs ≡ (out, bytes_of made) ∷ []
+by_length out made outputs said (inl too_long) = elim too_long.1 [ ]
+by_length out made outputs said (inr fits) = fits.1.0
+
+-- the one output is the tree that was made
+pub written : (told : Option (List File)) (asked : Asked) (outputs : List File) (said : List ℕ) → IsAskedJob told asked (Builds outputs said) → (made : Made) × IsMade told asked made × (outputs ≡ (asked.out, bytes_of made) ∷ [])
+written told asked outputs said job =
+    let found = found_by (IsFound told asked) (AfterAll told asked) (all_step told asked) (IsOutput asked.out) outputs said job in
+    (found.0, is_made told asked found.0 found.1, by_length asked.out found.0 outputs said found.2)
+
+-- what is written of a tree that is not too long
+pub output-made : (out : List ℕ) (made : Made) (bytes : List ℕ) (outcome : Outcome) → bytes ≡ bytes_of made → length (bytes_of made) ≤ length_limit → IsWriting ((out, bytes) ∷ []) [] outcome → IsOutput out made outcome
+output-made out made bytes outcome is fits writing = inr (fits, subst (λ (b : List ℕ). IsWriting ((out, b) ∷ []) [] outcome) is writing)
+
+-- nothing is reported
+no_length_report : (out : List ℕ) (made : Made) (outputs : List File) (said : List ℕ) → IsOutput out made (Builds outputs said) → said ≡ []
+no_length_report out made outputs said (inl too_long) = elim too_long.1 [ ]
+no_length_report out made outputs said (inr fits) = fits.1.1
+
+pub no_report : (told : Option (List File)) (asked : Asked) (outputs : List File) (said : List ℕ) → IsAskedJob told asked (Builds outputs said) → said ≡ []
+no_report told asked outputs said job =
+    let found = found_by (IsFound told asked) (AfterAll told asked) (all_step told asked) (IsOutput asked.out) outputs said job in
+    no_length_report asked.out found.0 outputs said found.2
+
+-- nothing has room where there is none
+pub no_bytes : (said : List ℕ) → said ≡ [] → TakesBytes (Some 0) said
+no_bytes said none_said = subst (λ (bytes : List ℕ). TakesBytes (Some 0) bytes) (sym none_said) (omega arith)
+
+-- a count of no faults does not rise
+never_rose : Rose 0 0 → ⊥
+never_rose rose = omega arith
+
+-- a write that failed failed at an output, where no count of the stream rises
+pub failed_output : {A B C D E G : Type 0} → (A × B × C) ⊎ (D × Rose 0 0 × E × G) → A × B
+failed_output (inl fell) = (fell.0, fell.1)
+failed_output (inr put) = absurd (never_rose put.1)

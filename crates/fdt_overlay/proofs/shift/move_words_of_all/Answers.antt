@@ -1,0 +1,30 @@
+use Rattle.std.proofs.Common.{◌≡◌, ◌∙◌, inl, inr, map, length, arith}
+use Rattle.std.proofs.lemmas.List.{length-map}
+use Rattle.fdt_nodes.specs.Held.{node_of}
+use Rattle.fdt_overlay.specs.Shift.{moved_by_node}
+use Rattle.fdt_overlay.proofs.TurnLemmas.{each-next, each-stop, each-end}
+use Rattle.fdt_overlay.proofs.LocalLemmas.{get-map, get-is}
+use Rattle.fdt_overlay.proofs.shift.move_words_of_all.Goals as goal
+
+pub loop-index-preserved : goal.loop-index-preserved
+loop-index-preserved c =
+    let f = node_of c.args.overlay.now in
+    let nodes = c.args.nodes.now in
+    let node = c.index-nodes-index.result in
+    c.loop-index.invariant ∙ each-next (moved_by_node c.args.by) c.loop-index.tree.tree c.move_words_of.new.tree.tree (map f nodes) c.loop-index.index (f node) (get-map f nodes c.loop-index.index node (get-is nodes c.loop-index.index node c.index-nodes-index.is c.loop-index-test.true)) c.in-Ok.ensures.ok
+
+pub returns-in-Err-clause-refused : goal.returns-in-Err-clause-refused
+returns-in-Err-clause-refused c =
+    let f = node_of c.args.overlay.now in
+    let nodes = c.args.nodes.now in
+    let node = c.index-nodes-index.result in
+    elim c.in-Err.ensures.refused [
+      | inl memory ↦ inl memory
+      | inr stop ↦ inr (c.loop-index.invariant ∙ each-stop (moved_by_node c.args.by) c.loop-index.tree.tree c.in-Err.fault (map f nodes) c.loop-index.index (f node) (get-map f nodes c.loop-index.index node (get-is nodes c.loop-index.index node c.index-nodes-index.is c.loop-index-test.true)) stop)
+    ]
+
+pub returns-clause-ok : goal.returns-clause-ok
+returns-clause-ok c =
+    let nodes = map (node_of c.args.overlay.now) c.args.nodes.now in
+    let end : c.loop-index.index ≡ length nodes = omega (arith, length-map c.args.nodes.now (node_of c.args.overlay.now)) in
+    c.loop-index.invariant ∙ each-end (moved_by_node c.args.by) c.loop-index.tree.tree nodes c.loop-index.index end

@@ -1,0 +1,108 @@
+use Rattle.std.proofs.Common.{◌∙◌, ap, subst, map, string_bytes, inl, inr}
+use Rattle.std.specs.Prelude.{Option}
+use Rattle.run_steps.specs.Endings.{Refuses, Builds, and_files}
+use Rattle.fdt_overlay.specs.Job.{IsAskedJob, IsWordsJob}
+use Rattle.fdt_overlay.specs.PrivateMeant.{meant}
+use Rattle.run_steps.specs.Outputs.{files_of, report_of}
+use Rattle.run_steps.proofs.Taken.{built_or_not}
+use Rattle.fdt_overlay.specs.Asked.{Asked}
+use Rattle.fdt_overlay.proofs.Exact.{words_call, exact_build, exact_stopped, cause_of, refused_for, format_for, longer_for, read_for, differs_for}
+use Rattle.fdt_overlay.proofs.Avoided.{job_avoids}
+use Rattle.fdt_overlay.proofs.Written.{written, no_report, no_bytes, failed_output}
+use Rattle.fdt_overlay.proofs.top.run.Goals as goal
+
+pub returns-in-Ok-clause-headline : goal.returns-in-Ok-clause-headline
+returns-in-Ok-clause-headline g c = λ names named is_built.
+    let told = g.F.Files.held c.args.files.now in
+    let outcome = Builds (files_of c.in-Ok.build) (report_of c.in-Ok.build) in
+    let calls = words_call (map string_bytes c.args.words.now) told (meant c.in-Some.asked) outcome c.in-Some.ensures c.in-Ok.ensures.built in
+    let taken = c.write_all.ensures.built is_built in
+    let one = written told names (files_of c.in-Ok.build) (report_of c.in-Ok.build) (subst (λ (read : Option Asked). IsWordsJob told read outcome) named calls) in
+    (one.0, one.1, taken.0 ∙ ap (and_files _) one.2)
+
+pub returns-in-Ok-clause-built : goal.returns-in-Ok-clause-built
+returns-in-Ok-clause-built g c = λ is_built.
+    let taken = c.write_all.ensures.built is_built in
+    let outcome = Builds (files_of c.in-Ok.build) (report_of c.in-Ok.build) in (
+      files_of c.in-Ok.build,
+      report_of c.in-Ok.build,
+      words_call (map string_bytes c.args.words.now) (g.F.Files.held c.args.files.now) (meant c.in-Some.asked) outcome c.in-Some.ensures c.in-Ok.ensures.built,
+      taken.0,
+      taken.2,
+    )
+
+pub returns-in-Ok-clause-write : goal.returns-in-Ok-clause-write
+returns-in-Ok-clause-write g c = λ failed.
+    let cut = c.write_all.ensures.write failed in
+    let outcome = Builds (files_of c.in-Ok.build) (report_of c.in-Ok.build) in
+    let found = failed_output cut.2 in (
+      files_of c.in-Ok.build,
+      report_of c.in-Ok.build,
+      cut.0,
+      words_call (map string_bytes c.args.words.now) (g.F.Files.held c.args.files.now) (meant c.in-Some.asked) outcome c.in-Some.ensures c.in-Ok.ensures.built,
+      cut.1,
+      found.0,
+      found.1,
+    )
+
+pub returns-in-Ok-clause-exact : goal.returns-in-Ok-clause-exact
+returns-in-Ok-clause-exact g c =
+    let outcome = Builds (files_of c.in-Ok.build) (report_of c.in-Ok.build) in
+    exact_build (map string_bytes c.args.words.now) (g.F.Files.held c.args.files.now) _ (files_of c.in-Ok.build) (report_of c.in-Ok.build) _
+    (words_call (map string_bytes c.args.words.now) (g.F.Files.held c.args.files.now) (meant c.in-Some.asked) outcome c.in-Some.ensures c.in-Ok.ensures.built) c.write_all.ensures.only
+
+pub returns-in-Err-Because-clause-exact : goal.returns-in-Err-Because-clause-exact
+returns-in-Err-Because-clause-exact g c =
+    exact_stopped (map string_bytes c.args.words.now) (g.F.Files.held c.args.files.now) (meant c.in-Some.asked) c.in-Some.ensures _ _ c.prepare.result c.in-Err-Because.field-0 c.in-Err-Because.status c.in-Err-Because.message
+    c.prepare.ensures.stopped c.in-Err-Because.is c.in-Err-Because.field-0-is
+
+pub returns-in-Err-Because-clause-refused : goal.returns-in-Err-Because-clause-refused
+returns-in-Err-Because-clause-refused g c = λ is.
+    let told = g.F.Files.held c.args.files.now in
+    let job = IsAskedJob told (meant c.in-Some.asked) in
+    let cause = cause_of job _ _ c.prepare.result c.in-Err-Because.field-0 c.in-Err-Because.status c.in-Err-Because.message c.prepare.ensures.stopped c.in-Err-Because.is c.in-Err-Because.field-0-is in
+    let refuses = Refuses c.in-Err-Because.status c.in-Err-Because.message in
+    (c.in-Err-Because.message, rw (c.as_slice.ensures) at c.say-in-Err-Because.ensures, words_call (map string_bytes c.args.words.now) told (meant c.in-Some.asked) refuses c.in-Some.ensures (refused_for job _ _ _ _ cause is))
+
+pub returns-in-Err-Because-clause-format : goal.returns-in-Err-Because-clause-format
+returns-in-Err-Because-clause-format g c = λ is.
+    let told = g.F.Files.held c.args.files.now in
+    let job = IsAskedJob told (meant c.in-Some.asked) in
+    let cause = cause_of job _ _ c.prepare.result c.in-Err-Because.field-0 c.in-Err-Because.status c.in-Err-Because.message c.prepare.ensures.stopped c.in-Err-Because.is c.in-Err-Because.field-0-is in
+    let refuses = Refuses c.in-Err-Because.status c.in-Err-Because.message in
+    (c.in-Err-Because.message, rw (c.as_slice.ensures) at c.say-in-Err-Because.ensures, words_call (map string_bytes c.args.words.now) told (meant c.in-Some.asked) refuses c.in-Some.ensures (format_for job _ _ _ _ cause is))
+
+pub returns-in-Err-Because-clause-longer : goal.returns-in-Err-Because-clause-longer
+returns-in-Err-Because-clause-longer g c = λ is.
+    let told = g.F.Files.held c.args.files.now in
+    let job = IsAskedJob told (meant c.in-Some.asked) in
+    let cause = cause_of job _ _ c.prepare.result c.in-Err-Because.field-0 c.in-Err-Because.status c.in-Err-Because.message c.prepare.ensures.stopped c.in-Err-Because.is c.in-Err-Because.field-0-is in
+    let refuses = Refuses c.in-Err-Because.status c.in-Err-Because.message in
+    let longer = longer_for job _ _ _ _ cause is in
+    (c.in-Err-Because.message, rw (c.as_slice.ensures) at c.say-in-Err-Because.ensures, longer.0, words_call (map string_bytes c.args.words.now) told (meant c.in-Some.asked) refuses c.in-Some.ensures longer.1)
+
+pub returns-in-Err-Because-clause-read : goal.returns-in-Err-Because-clause-read
+returns-in-Err-Because-clause-read g c = λ is.
+    let told = g.F.Files.held c.args.files.now in
+    let job = IsAskedJob told (meant c.in-Some.asked) in
+    let cause = cause_of job _ _ c.prepare.result c.in-Err-Because.field-0 c.in-Err-Because.status c.in-Err-Because.message c.prepare.ensures.stopped c.in-Err-Because.is c.in-Err-Because.field-0-is in
+    let refuses = Refuses c.in-Err-Because.status c.in-Err-Because.message in
+    (c.in-Err-Because.message, rw (c.as_slice.ensures) at c.say-in-Err-Because.ensures, elim (read_for job _ _ _ _ cause is) [ inl failed ↦ inl failed | inr absent ↦ inr (absent.0, words_call (map string_bytes c.args.words.now) told (meant c.in-Some.asked) refuses c.in-Some.ensures absent.1) ])
+
+pub returns-in-Err-Because-clause-no_audit : goal.returns-in-Err-Because-clause-no_audit
+returns-in-Err-Because-clause-no_audit g c = λ is.
+    let told = g.F.Files.held c.args.files.now in
+    let job = IsAskedJob told (meant c.in-Some.asked) in
+    let cause = cause_of job _ _ c.prepare.result c.in-Err-Because.field-0 c.in-Err-Because.status c.in-Err-Because.message c.prepare.ensures.stopped c.in-Err-Because.is c.in-Err-Because.field-0-is in
+    job_avoids told (meant c.in-Some.asked) c.in-Err-Because.message (differs_for job _ _ _ _ cause is)
+
+pub returns-in-Ok-clause-room : goal.returns-in-Ok-clause-room
+returns-in-Ok-clause-room g c = λ failed.
+    let told = g.F.Files.held c.args.files.now in
+    let outcome = Builds (files_of c.in-Ok.build) (report_of c.in-Ok.build) in
+    let unsaid = no_report told (meant c.in-Some.asked) (files_of c.in-Ok.build) (report_of c.in-Ok.build) c.in-Ok.ensures.built in (
+      files_of c.in-Ok.build,
+      report_of c.in-Ok.build,
+      words_call (map string_bytes c.args.words.now) told (meant c.in-Some.asked) outcome c.in-Some.ensures c.in-Ok.ensures.built,
+      λ room. built_or_not c.write_all.result (c.write_all.ensures.room (room, no_bytes _ unsaid)) failed,
+    )

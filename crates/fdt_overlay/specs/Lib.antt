@@ -1,0 +1,16 @@
+pub mod Applied
+pub mod Asked
+pub mod Job
+pub mod Laws
+pub mod Lines
+pub mod Merge
+pub mod Overlays
+pub mod PrivateCopies
+pub mod PrivateGrown
+pub mod PrivateMeant
+pub mod PrivateSteps
+pub mod Resolve
+pub mod Shift
+pub mod Turns
+pub mod Values
+pub mod Words

@@ -1,0 +1,27 @@
+//! Device tree overlays, as `dtc` writes them with symbols, applied to a base tree.
+#![tactic(auto)]
+
+mod applied;
+mod copies;
+mod depths;
+mod digits;
+mod fault;
+mod fragments;
+mod held;
+pub mod laws;
+mod lines;
+mod merge;
+mod no_report;
+mod pieces;
+mod prepare;
+mod resolve;
+mod shift;
+mod spots;
+mod targets;
+mod top;
+mod word_values;
+mod words;
+
+pub use applied::apply;
+pub use fault::OverlayFault;
+pub use top::run;

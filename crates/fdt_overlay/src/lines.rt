@@ -1,0 +1,60 @@
+// Messages.
+ghost use Rattle.std.specs.Prelude.{◌≡◌, ◌-◌, ◌^◌, ◌++◌, min, IfOk, OnOk};
+ghost use Rattle.fdt_overlay.specs.Lines.{fault_text, fault_message, too_long_message};
+
+use crate::fault::OverlayFault;
+use dl_base::Bytes;
+use run_steps::make_file_message;
+use std::alloc::{AllocError, Global};
+
+/// Adds the name of a fault, and what it is about.
+fn append_named(text: &mut Bytes, name: &[u8], about: &Bytes) -> Result<(), AllocError>
+    ensures { OnOk result (text.new ≡ text.old ++ (name.now ++ about.now)) }
+{
+    text.append(name)?;
+    text.append(about.as_slice())
+}
+
+/// Adds a fault as it is shown: its name, and the path, label or name that it is about.
+fn append_fault(text: &mut Bytes, fault: &OverlayFault) -> Result<(), AllocError>
+    ensures { OnOk result (text.new ≡ text.old ++ fault_text fault.now) }
+{
+    match fault {
+        OverlayFault::PhandleRange => text.append(b"PhandleRange"),
+        OverlayFault::BadLocal(path) => append_named(text, b"BadLocal ", path),
+        OverlayFault::Unresolved(label) => append_named(text, b"Unresolved ", label),
+        OverlayFault::BadFixup(label) => append_named(text, b"BadFixup ", label),
+        OverlayFault::NoTarget(name) => append_named(text, b"NoTarget ", name),
+        OverlayFault::Deep(name) => append_named(text, b"Deep ", name),
+        OverlayFault::Memory => text.append(b"out of memory"),
+    }
+}
+
+/// What is said about an overlay that has a fault.
+pub(crate) fn make_fault_message(
+    alloc: Global,
+    name: &str,
+    fault: &OverlayFault,
+) -> Result<Bytes, AllocError>
+    ensures { IfOk result (λ message. message ≡ fault_message name.now fault.now) }
+{
+    let mut text = Bytes::new(alloc);
+    append_fault(&mut text, fault)?;
+    make_file_message(alloc, name, text.as_slice())
+}
+
+/// What is said about a tree of so many bytes, or of more where the number is the greatest, that is too long to be written
+/// under a name.
+pub(crate) fn make_too_long_message(
+    alloc: Global,
+    name: &str,
+    bytes: u64,
+) -> Result<Bytes, AllocError>
+    ensures { IfOk result (λ message. (length : _) → bytes ≡ min length (2 ^ 64 - 1) → message ≡ too_long_message name.now length) }
+{
+    let mut text = Bytes::new(alloc);
+    text.append(b"TreeTooLong ")?;
+    text.append_decimal(alloc, bytes)?;
+    let message = make_file_message(alloc, name, text.as_slice())?;
+    Ok(message)
+}

@@ -1,0 +1,168 @@
+// The phandles of an overlay are moved above those of the base.
+ghost use Rattle.std.specs.Prelude.{◌≡◌, ◌⊎◌, ◌<◌, Some, None, Ok, Err, IfOk, IfErr, OnOk, IsTrue, length, map, drop, All, option_and_then};
+ghost use Rattle.fdt_tree.specs.Tree.{find_place, is_property_name};
+ghost use Rattle.fdt_tree.specs.Document.{properties_of};
+ghost use Rattle.fdt_nodes.specs.Nodes.{shown};
+ghost use Rattle.fdt_nodes.specs.Held.{node_of};
+ghost use Rattle.fdt_overlay.specs.Turns.{all, each};
+ghost use Rattle.fdt_overlay.specs.Shift.{local_path, local_fixups, moved_by_property, moved_by_node, shifted};
+
+use crate::copies::copy_moved;
+use crate::fault::OverlayFault;
+use crate::held::held;
+use crate::word_values::{ValueFault, moved, with_all_moved};
+use fdt_nodes::{descendants, found, path};
+use fdt_tree::{NodeId, Tree, highest_phandle};
+use std::alloc::Global;
+
+/// How many bytes the path of the node of local fixups has, which is `/__local_fixups__`.
+const LOCAL_PATH_LENGTH: usize = 17;
+
+/// The words that one property of local fixups lists, moved up in the property of that name at the node that a path
+/// finds. The path finds the same node afterwards.
+fn move_words(
+    alloc: Global,
+    by: u32,
+    tree: &mut Tree,
+    path: &[u8],
+    name: &[u8],
+    offsets: &[u8],
+) -> Result<(), ValueFault>
+    requires property_name { IsTrue (is_property_name name.now) }
+    ensures ok { OnOk result (option_and_then (λ place. moved_by_property by place tree.old.tree (name.now, offsets.now)) (find_place tree.old.tree path.now) ≡ Some tree.new.tree) }
+    ensures found { OnOk result (find_place tree.new.tree path.now ≡ find_place tree.old.tree path.now) }
+    ensures err { IfErr result (λ fault. (fault ≡ ValueFault.Memory) ⊎ ((fault ≡ ValueFault.Missing) × (option_and_then (λ place. moved_by_property by place tree.old.tree (name.now, offsets.now)) (find_place tree.old.tree path.now) ≡ None))) }
+{
+    let Some(node) = tree.find(path) else {
+        return Err(ValueFault::Missing);
+    };
+    let Some(value) = tree.prop(node, name) else {
+        return Err(ValueFault::Missing);
+    };
+    let made = with_all_moved(alloc, by, offsets, value)?;
+    match tree.set(path, name, made.as_slice()) {
+        Ok(()) => Ok(()),
+        Err(_) => Err(ValueFault::Memory),
+    }
+}
+
+/// The words that one node of local fixups lists, moved up in the node that a path finds.
+fn move_words_at(
+    alloc: Global,
+    by: u32,
+    tree: &mut Tree,
+    path: &[u8],
+    overlay: &Tree,
+    fixups: NodeId,
+) -> Result<(), ValueFault>
+    requires live { fixups < length overlay.now.places }
+    ensures ok { OnOk result (option_and_then (λ place. all (moved_by_property by place) tree.old.tree (properties_of overlay.now fixups)) (find_place tree.old.tree path.now) ≡ Some tree.new.tree) }
+    ensures err { IfErr result (λ fault. (fault ≡ ValueFault.Memory) ⊎ ((fault ≡ ValueFault.Missing) × (option_and_then (λ place. all (moved_by_property by place) tree.old.tree (properties_of overlay.now fixups)) (find_place tree.old.tree path.now) ≡ None))) }
+{
+    overlay.names();
+    let Some(_node) = tree.find(path) else {
+        return Err(ValueFault::Missing);
+    };
+    for index in 0..overlay.prop_count(fixups) {
+        let (name, offsets) = overlay.prop_at(fixups, index);
+        match move_words(alloc, by, tree, path, name, offsets) {
+            Ok(()) => {}
+            Err(fault) => return Err(fault),
+        }
+    }
+    Ok(())
+}
+
+/// The path of the overlay's node that a node of local fixups speaks of, by its own path.
+fn spoken_path(path: &[u8]) -> &[u8]
+    ensures { result.now ≡ shown (drop (length local_path) path.now) }
+{
+    if path.len() <= LOCAL_PATH_LENGTH {
+        b"/"
+    } else {
+        &path[LOCAL_PATH_LENGTH..]
+    }
+}
+
+/// The words that one node of local fixups lists, moved up in the node that it speaks of. Where it is at fault, the words
+/// before the fault are moved.
+fn move_words_of(
+    alloc: Global,
+    by: u32,
+    tree: &mut Tree,
+    overlay: &Tree,
+    fixups: NodeId,
+) -> Result<(), OverlayFault>
+    requires live { fixups < length overlay.now.places }
+    ensures ok { OnOk result (moved_by_node by tree.old.tree (node_of overlay.now fixups) ≡ Ok tree.new.tree) }
+    ensures refused { IfErr result (λ fault. (fault ≡ OverlayFault.Memory) ⊎ (moved_by_node by tree.old.tree (node_of overlay.now fixups) ≡ Err fault)) }
+{
+    let own = path(alloc, overlay, fixups)?;
+    let spoken = spoken_path(own.as_slice());
+    match move_words_at(alloc, by, tree, spoken, overlay, fixups) {
+        Ok(()) => Ok(()),
+        Err(ValueFault::Memory) => Err(OverlayFault::Memory),
+        Err(ValueFault::Missing) => {
+            let name = held(alloc, spoken)?;
+            Err(OverlayFault::BadLocal(name))
+        }
+    }
+}
+
+/// The words that some nodes of local fixups list, moved up node by node.
+fn move_words_of_all(
+    alloc: Global,
+    by: u32,
+    tree: &mut Tree,
+    overlay: &Tree,
+    nodes: &[NodeId],
+) -> Result<(), OverlayFault>
+    requires live { All (λ node. node < length overlay.now.places) nodes.now }
+    ensures ok { OnOk result (each (moved_by_node by) tree.old.tree (map (node_of overlay.now) nodes.now) ≡ Ok tree.new.tree) }
+    ensures refused { IfErr result (λ fault. (fault ≡ OverlayFault.Memory) ⊎ (each (moved_by_node by) tree.old.tree (map (node_of overlay.now) nodes.now) ≡ Err fault)) }
+{
+    for index in 0..nodes.len() {
+        match move_words_of(alloc, by, tree, overlay, nodes[index]) {
+            Ok(()) => {}
+            Err(fault) => return Err(fault),
+        }
+    }
+    Ok(())
+}
+
+/// The words that the local fixups list, moved up node by node in document order.
+fn move_local_words(
+    alloc: Global,
+    by: u32,
+    tree: &mut Tree,
+    overlay: &Tree,
+) -> Result<(), OverlayFault>
+    ensures ok { OnOk result (each (moved_by_node by) tree.old.tree (local_fixups overlay.now.tree) ≡ Ok tree.new.tree) }
+    ensures refused { IfErr result (λ fault. (fault ≡ OverlayFault.Memory) ⊎ (each (moved_by_node by) tree.old.tree (local_fixups overlay.now.tree) ≡ Err fault)) }
+{
+    let Some(node) = found(overlay, b"/__local_fixups__") else {
+        return Ok(());
+    };
+    let below = descendants(alloc, overlay, node)?;
+    match move_words_of(alloc, by, tree, overlay, node) {
+        Ok(()) => move_words_of_all(alloc, by, tree, overlay, below.as_slice()),
+        Err(fault) => Err(fault),
+    }
+}
+
+/// An overlay with its phandles above those of a base, and with them the words that hold them: `PhandleRange` where the
+/// greatest would pass 0xfffffffe, and `BadLocal` with the path of the first node of local fixups at fault.
+pub(crate) fn shift(alloc: Global, base: &Tree, overlay: &Tree) -> Result<Tree, OverlayFault>
+    ensures ok { IfOk result (λ made. shifted base.now.tree overlay.now.tree ≡ Ok made.tree) }
+    ensures refused { IfErr result (λ fault. (fault ≡ OverlayFault.Memory) ⊎ (shifted base.now.tree overlay.now.tree ≡ Err fault)) }
+{
+    let by = highest_phandle(base);
+    let Some(_) = moved(by, highest_phandle(overlay)) else {
+        return Err(OverlayFault::PhandleRange);
+    };
+    let mut tree = copy_moved(alloc, by, overlay)?;
+    match move_local_words(alloc, by, &mut tree, overlay) {
+        Ok(()) => Ok(tree),
+        Err(fault) => Err(fault),
+    }
+}
