@@ -1,9 +1,9 @@
 -- Wherever the reader stands, some text leads it to its end.
-use Rattle.std.proofs.Common.{◌≡◌, ◌∙◌, refl, sym, ap, subst, ℕ, suc, zero, Bool, true, false, List, [], ◌∷◌, ◌++◌, drop, Option, Some, None, cond, codes}
+use Rattle.std.proofs.Common.{◌≡◌, ◌∙◌, refl, ap, ℕ, suc, zero, Bool, true, false, [], ◌∷◌, ◌++◌, drop, Option, Some, None, cond, codes}
 use Rattle.std.specs.Prelude.{◌==◌, slice_get}
 use Rattle.std.proofs.lemmas.Bool.{eq-eqb}
 use Rattle.fdt_tree.specs.Tree.{Bytes}
-use Rattle.fdt_source.specs.Characters.{is_property_byte, is_node_byte, is_string_byte, is_space}
+use Rattle.fdt_source.specs.Characters.{is_property_byte, is_node_byte, is_space}
 use Rattle.fdt_source.specs.declared.state.Comment.{Comment}
 use Rattle.fdt_source.specs.declared.state.Comment.TheVariants.{Outside, Fresh, Slash, ToFeed, ToStar, Star}
 use Rattle.fdt_source.specs.declared.state.Keyword.{Keyword}
@@ -14,9 +14,9 @@ use Rattle.fdt_source.specs.declared.state.Digits.{Digits}
 use Rattle.fdt_source.specs.declared.state.Digits.TheVariants.{Zero, Prefix, Hexadecimal, Decimal}
 use Rattle.fdt_source.specs.declared.state.Next.{Next}
 use Rattle.fdt_source.specs.declared.state.Next.TheVariants.{Start, Word, VersionEnd, Item, Address, AddressDigits, Size, SizeDigits, ReserveEnd, RootOpen, Body, Name, AfterName, Value, Quoted, Cells, CellDigits, Pairs, Half, AfterValue, Closed, Over}
-use Rattle.fdt_source.specs.declared.state.Action.TheVariants.{Pass, Close}
-use Rattle.fdt_source.specs.Turns.{Turn, pass, gap_turn, word_turn, word_text, after_word, spaced, is_done}
-use Rattle.fdt_source.specs.Readings.{Built, Stand, act, runs}
+use Rattle.fdt_source.specs.declared.state.Action.TheVariants.{Close}
+use Rattle.fdt_source.specs.PrivateTurns.{pass, word_turn, word_text, after_word, spaced, is_done}
+use Rattle.fdt_source.specs.PrivateReadings.{Built, Stand, act, runs}
 use Rattle.fdt_source.proofs.Running.{cont}
 
 -- The text, and where it leads.

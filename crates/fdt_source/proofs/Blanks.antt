@@ -1,19 +1,19 @@
 -- The reader goes over spacing.
-use Rattle.std.proofs.Common.{◌≡◌, ◌∙◌, refl, sym, ap, subst, ℕ, ◌<◌, Bool, true, false, not, ◌&&◌, List, [], ◌∷◌, ◌++◌, length, append_assoc, Option, Some, None, cond, inl, inr, arith, codes}
-use Rattle.std.specs.Prelude.{◌==◌, ◌⊎◌}
+use Rattle.std.proofs.Common.{◌≡◌, ◌∙◌, refl, sym, ap, subst, ℕ, ◌<◌, Bool, true, false, not, ◌&&◌, List, [], ◌∷◌, ◌++◌, length, append_assoc, Option, Some, None, cond, inl, inr, arith}
+use Rattle.std.specs.Prelude.{◌==◌}
 use Rattle.std.specs.List.{list_all, AllByRecursion}
 use Rattle.std.proofs.lemmas.Bool.{and_parts, not-true, cond-true, cond-false, eqb-true, true≢false}
 use Rattle.fdt_tree.specs.Tree.{Bytes}
 use Rattle.fdt_source.specs.Characters.{is_space}
-use Rattle.fdt_source.specs.Source.{whole, is_open, IsBlock, IsOpenLine, IsLine, IsSpacing, IsBlank, IsSeparator, begins_no_comment, IsBlankAfterSlash}
+use Rattle.fdt_source.specs.Source.{whole, is_open, IsSpacing, IsBlank, IsSeparator, begins_no_comment, IsBlankAfterSlash}
 use Rattle.fdt_source.specs.declared.state.Comment.{Comment}
 use Rattle.fdt_source.specs.declared.state.Comment.TheVariants.{Outside, Fresh, Slash, ToFeed, ToStar, Star}
 use Rattle.fdt_source.specs.declared.state.Next.{Next}
 use Rattle.fdt_source.specs.declared.state.Keyword.TheVariants as keywords
 use Rattle.fdt_source.specs.declared.state.Next.TheVariants.{Word, Body, Item, RootOpen}
 use Rattle.fdt_source.specs.declared.state.Action.TheVariants.{Pass}
-use Rattle.fdt_source.specs.Turns.{Turn, pass, spaced, gap_turn, token_turn, slash_turn, outside_turn}
-use Rattle.fdt_source.specs.Readings.{Built, Stand, runs}
+use Rattle.fdt_source.specs.PrivateTurns.{pass, spaced, gap_turn, token_turn, slash_turn, outside_turn}
+use Rattle.fdt_source.specs.PrivateReadings.{Built, Stand, runs}
 use Rattle.fdt_source.proofs.Running.{cont, differs}
 
 -- Spacing may stand here.

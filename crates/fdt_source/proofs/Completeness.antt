@@ -1,26 +1,26 @@
 -- The reader goes over every source to its end, and adds what the source says.
-use Rattle.std.proofs.Common.{◌≡◌, ◌∙◌, refl, sym, ap, subst, ℕ, ◌^◌, ◌<◌, Bool, true, false, not, ◌&&◌, List, [], ◌∷◌, ◌++◌, length, filter, append_assoc, append-nil, Option, Some, None, cond, inl, inr, codes, arith}
-use Rattle.std.specs.Prelude.{◌==◌, ◌⊎◌, nat_lt}
+use Rattle.std.proofs.Common.{◌≡◌, ◌∙◌, refl, sym, ap, ℕ, ◌^◌, ◌<◌, Bool, true, false, not, ◌&&◌, List, [], ◌∷◌, ◌++◌, length, filter, append_assoc, append-nil, Some, None, cond, inl, inr, codes, arith}
+use Rattle.std.specs.Prelude.{◌==◌}
 use Rattle.std.specs.List.{list_all}
-use Rattle.std.proofs.lemmas.Bool.{and_parts, not-true, cond-true, cond-false}
+use Rattle.std.proofs.lemmas.Bool.{and_parts, not-true, cond-false}
 use Rattle.fdt_tree.specs.Tree.{Bytes, Tree}
 use Rattle.fdt_tree.specs.declared.reserve.Reserve.{Reserve}
 use Rattle.fdt_read.specs.Tokens.{Token, begin_node}
 use Rattle.fdt_read.specs.Spelling.{spelled_properties, spelled}
 use Rattle.fdt_source.specs.Characters.{is_space}
-use Rattle.fdt_source.specs.Source.{whole, IsBlank, IsSeparator, begins_no_comment, IsOpenLine, IsLastBlank, IsReserve, AreEach, is_said, AreReserves, IsVersion, IsRoot, IsSource}
+use Rattle.fdt_source.specs.Source.{whole, begins_no_comment, IsLastBlank, IsReserve, AreEach, is_said, IsVersion, IsRoot, IsSource}
 use Rattle.fdt_source.specs.declared.state.Comment.{Comment}
 use Rattle.fdt_source.specs.declared.state.Comment.TheVariants.{Outside, Fresh, Slash, ToFeed}
 use Rattle.fdt_source.specs.declared.state.Next.{Next}
 use Rattle.fdt_source.specs.declared.state.Next.TheVariants.{Start, VersionEnd, Item, Address, AddressDigits, Size, SizeDigits, ReserveEnd, Body, Closed, Over}
 use Rattle.fdt_source.specs.declared.state.Action.TheVariants.{Pass, SetAddress, AddReserve}
-use Rattle.fdt_source.specs.Turns.{Turn, pass, gap_turn, outside_turn, spaced, is_done}
-use Rattle.fdt_source.specs.Readings.{Built, Stand, act, runs, reached, unread, with_reserve}
+use Rattle.fdt_source.specs.PrivateTurns.{pass, gap_turn, outside_turn, is_done}
+use Rattle.fdt_source.specs.PrivateReadings.{Built, runs, reached, unread, with_reserve}
 use Rattle.fdt_source.proofs.Running.{cont}
 use Rattle.fdt_source.proofs.Blanks.{IsGap, over_blank, over_separator, over_fresh, over_root, slash_here}
-use Rattle.fdt_source.proofs.Stops.{Front, stop_59, blank_front, separator_front}
+use Rattle.fdt_source.proofs.Stops.{stop_59, blank_front, separator_front}
 use Rattle.fdt_source.proofs.Numbers.{address_numeric, size_numeric, first_address, first_size, over_number}
-use Rattle.fdt_source.proofs.Nodes.{Leads, gap_body, gap_closed, over_properties, over_nodes}
+use Rattle.fdt_source.proofs.Nodes.{gap_body, gap_closed, over_properties, over_nodes}
 
 pub gap_start : IsGap Start
 gap_start = record { here = λ d c. refl; there = λ d c. refl; again = refl }

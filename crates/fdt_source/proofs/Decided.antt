@@ -1,6 +1,6 @@
 -- Where the reader goes through, a text says what was read; else it departs where the reader stops.
-use Rattle.std.proofs.Common.{arith, ◌≡◌, ◌∙◌, refl, sym, ap, subst, ℕ, suc, ◌+◌, ◌<◌, Bool, true, false, List, [], ◌∷◌, ◌++◌, length, take, drop, append_assoc, Option, Some, None, inl, inr}
-use Rattle.std.specs.Prelude.{◌⊎◌, Option, option_and_then}
+use Rattle.std.proofs.Common.{arith, ◌≡◌, ◌∙◌, refl, sym, ap, subst, ℕ, ◌+◌, ◌<◌, true, false, List, [], ◌∷◌, ◌++◌, length, take, drop, Option, Some, None, inl, inr}
+use Rattle.std.specs.Prelude.{Option, option_and_then}
 use Rattle.std.proofs.lemmas.Bool.{true≢false}
 use Rattle.std.proofs.lemmas.List.{take-append-drop}
 use Rattle.fdt_tree.specs.Tree.{Bytes, Tree, Place}
@@ -14,8 +14,8 @@ use Rattle.fdt_source.specs.declared.state.Comment.TheVariants.{Outside}
 use Rattle.fdt_source.specs.declared.state.Next.{Next}
 use Rattle.fdt_source.specs.declared.state.Next.TheVariants.{Start, Over}
 use Rattle.fdt_source.specs.declared.state.Action.{Action}
-use Rattle.fdt_source.specs.Turns.{Turn, turn, depth_behind, is_done}
-use Rattle.fdt_source.specs.Readings.{Built, Stand, act, runs, reached, unread}
+use Rattle.fdt_source.specs.PrivateTurns.{turn, depth_behind, is_done}
+use Rattle.fdt_source.specs.PrivateReadings.{Built, Stand, act, reached, unread}
 use Rattle.fdt_source.proofs.Running.{stand, cont, from, runs-append}
 use Rattle.fdt_source.proofs.Completeness.{complete}
 use Rattle.fdt_source.proofs.Soundness.{sound}

@@ -9,7 +9,7 @@ use Rattle.run_steps.specs.Laws.{Agree, Answers, AnswersUnless}
 use Rattle.run_steps.specs.Stops.{Counts, IsReadFailure, IsCause, IsDue}
 use Rattle.run_steps.specs.declared.stop.Stop.{Stop}
 use Rattle.run_steps.specs.declared.stop.Stop.TheVariants.{Because}
-use Rattle.fdt_source.specs.Words.{asked as words_asked}
+use Rattle.fdt_source.specs.Words.{Asked, asked as words_asked}
 use Rattle.fdt_source.specs.Job.{IsAskedJob, IsWordsJob, IsJob, CallsFor}
 use Rattle.fdt_source.proofs.OneOutcome.{one_outcome}
 use Rattle.fdt_source.proofs.Avoided.{job_avoids}
@@ -50,8 +50,8 @@ module _ (words : List (List ℕ)) (told : Option (List File)) (failed : Type 0)
       by_told (Some held) = λ outcome job. inl fell
 
 -- what is asked for is called for by the words that ask for it
-pub words_call : (words : List (List ℕ)) (told : Option (List File)) (name : List ℕ) (outcome : Outcome) → Some name ≡ words_asked words → IsAskedJob told name outcome → CallsFor words told outcome
-words_call words told name outcome named job = subst (λ (read : Option (List ℕ)). IsWordsJob told read outcome) named job
+pub words_call : (words : List (List ℕ)) (told : Option (List File)) (asked : Asked) (outcome : Outcome) → Some asked ≡ words_asked words → IsAskedJob told asked outcome → CallsFor words told outcome
+words_call words told asked outcome named job = subst (λ (read : Option Asked). IsWordsJob told read outcome) named job
 
 -- why a run stopped
 pub cause_of : {A : Type 0} (called : Outcome → Type 0) (before after : Counts) (result : Result A Stop) (stop : Stop) (status : Status) (message : List ℕ) → IfErr result (λ s. IsDue called before after s)
@@ -87,11 +87,11 @@ module _ (called : Outcome → Type 0) (before after : Counts) (status : Status)
       by (inl failed) = inl failed
       by (inr absent) = inr (absent.0, back statuses.Read is absent.1)
 
-module _ (words : List (List ℕ)) (told : Option (List File)) (name : List ℕ) (named : Some name ≡ words_asked words) (before after : Counts) where
-  because : (status : Status) (message : List ℕ) → IsAskedJob told name (Refuses status message) → Exact words told (Rose before.0 after.0) status
-  because status message job = exact_refusal words told _ status message (words_call words told name (Refuses status message) named job)
+module _ (words : List (List ℕ)) (told : Option (List File)) (asked : Asked) (named : Some asked ≡ words_asked words) (before after : Counts) where
+  because : (status : Status) (message : List ℕ) → IsAskedJob told asked (Refuses status message) → Exact words told (Rose before.0 after.0) status
+  because status message job = exact_refusal words told _ status message (words_call words told asked (Refuses status message) named job)
 
-  pub exact_stop : (status : Status) (message : List ℕ) → IsCause (IsAskedJob told name) before after status message → Exact words told (Rose before.0 after.0) status
+  pub exact_stop : (status : Status) (message : List ℕ) → IsCause (IsAskedJob told asked) before after status message → Exact words told (Rose before.0 after.0) status
   exact_stop statuses.Refused message cause = because statuses.Refused message cause
   exact_stop statuses.Format message cause = because statuses.Format message cause
   exact_stop statuses.Read message (inl failed) = read_failed words told _ failed.0 statuses.Read
@@ -101,8 +101,8 @@ module _ (words : List (List ℕ)) (told : Option (List File)) (name : List ℕ)
   exact_stop statuses.Memory message cause = elim cause [ ]
   exact_stop statuses.Words message cause = elim cause [ ]
   exact_stop statuses.Write message cause = elim cause [ ]
-  exact_stop statuses.Differs message cause = absurd (job_avoids told name message cause)
+  exact_stop statuses.Differs message cause = absurd (job_avoids told asked message cause)
 
-  pub exact_stopped : {A : Type 0} (result : Result A Stop) (stop : Stop) (status : Status) (message : List ℕ) → IfErr result (λ s. IsDue (IsAskedJob told name) before after s)
+  pub exact_stopped : {A : Type 0} (result : Result A Stop) (stop : Stop) (status : Status) (message : List ℕ) → IfErr result (λ s. IsDue (IsAskedJob told asked) before after s)
       → result ≡ Err stop → stop ≡ Because status message → Exact words told (Rose before.0 after.0) status
-  exact_stopped result stop status message due is because_is = exact_stop status message (cause_of (IsAskedJob told name) before after result stop status message due is because_is)
+  exact_stopped result stop status message due is because_is = exact_stop status message (cause_of (IsAskedJob told asked) before after result stop status message due is because_is)

@@ -1,19 +1,17 @@
 -- How each token changes the tree that is read.
-use Rattle.std.proofs.Common.{◌≡◌, ◌≢◌, ◌⊎◌, inl, inr, ℕ, suc, zero, ◌<◌, List, [], ◌∷◌, ◌++◌, Option, Some, None, option_map, unwrap_or, length, length-append, refl, sym, ap, subst, ◌∙◌, append_assoc, arith, Result, Ok}
+use Rattle.std.proofs.Common.{◌≡◌, ◌≢◌, ◌⊎◌, inl, inr, ℕ, suc, zero, ◌<◌, List, [], ◌∷◌, ◌++◌, Option, Some, None, option_map, unwrap_or, length, length-append, refl, sym, ap, subst, ◌∙◌, append_assoc, arith, Ok}
 use Rattle.fdt_tree.specs.Tree.{Bytes, Property, Trees, none, tree, Tree, Place, at_in, at, count, edit, add_child, change_properties}
 use Rattle.fdt_tree.specs.Document.{Document, empty, place_of, if_there, parent_place, children_at, with_child, with_child_of, with_property}
 use Rattle.fdt_tree.specs.PrivateLinks.{summary}
 use Rattle.fdt_tree.proofs.Edits.{add_child-Extends, change_properties-Extends, Extends, at-edit_same, at-edit_other, at-new}
 use Rattle.fdt_tree.proofs.Links.{children_at-there, count-with_last, place-new}
-use Rattle.fdt_tree.specs.declared.edit_fault.EditFault.{EditFault}
 use Rattle.fdt_read.specs.Tokens.{Token, begin_node, end_node, property}
-use Rattle.fdt_read.specs.Built.{opened}
 use Rattle.fdt_read.proofs.Opened.{opened-begin, opened-property, opened-end}
 use Rattle.fdt_read.proofs.Formed.{put}
 use Rattle.fdt_read.proofs.Kept.{added, added_live}
 use Rattle.fdt_source.specs.declared.growing.Growing.{Growing}
-use Rattle.fdt_source.specs.Turns.{above}
-use Rattle.fdt_source.specs.Readings.{InTree, IsGrown}
+use Rattle.fdt_source.specs.PrivateTurns.{above}
+use Rattle.fdt_source.specs.PrivateReadings.{InTree, IsGrown}
 
 same_some : {A : Type 0} (a b : A) → Some a ≡ Some b → a ≡ b
 same_some a b e = cc

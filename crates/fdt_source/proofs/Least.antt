@@ -1,5 +1,5 @@
 -- The least text is a source.
-use Rattle.std.proofs.Common.{◌≡◌, refl, inl, inr, [], ◌∷◌}
+use Rattle.std.proofs.Common.{refl, inl, inr, [], ◌∷◌}
 use Rattle.std.specs.Prelude.{codes}
 use Rattle.fdt_tree.specs.Tree.{none, Tree}
 use Rattle.fdt_source.specs.Characters.{is_string_byte}

@@ -4,10 +4,6 @@ pub mod Printing
 pub mod Lined
 pub mod Bad
 pub mod OpenLemmas
-pub mod OneOutcome
-pub mod Avoided
-pub mod Exact
-pub mod Shown
 pub mod Taken
 pub mod Running
 pub mod Blanks
@@ -27,4 +23,9 @@ pub mod Decided
 pub mod Grown
 pub mod ValuesPrinted
 pub mod PrintedBack
+pub mod TextSteps
+pub mod OneOutcome
+pub mod Avoided
+pub mod Exact
+pub mod Shown
 mod Least

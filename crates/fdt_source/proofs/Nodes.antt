@@ -1,6 +1,6 @@
 -- The reader goes over names, properties and nodes.
-use Rattle.std.proofs.Common.{◌≡◌, ◌∙◌, refl, sym, ap, subst, ℕ, suc, ◌<◌, ◌≤◌, Bool, true, false, not, ◌&&◌, ◌||◌, List, [], ◌∷◌, ◌++◌, length, append_assoc, append-nil, Option, Some, None, cond, inl, inr, codes, arith}
-use Rattle.std.specs.Prelude.{◌==◌, ◌⊎◌, nat_lt}
+use Rattle.std.proofs.Common.{◌≡◌, ◌∙◌, refl, sym, ap, subst, ℕ, suc, ◌<◌, ◌≤◌, Bool, true, false, ◌&&◌, ◌||◌, List, [], ◌∷◌, ◌++◌, append_assoc, append-nil, Some, cond, inl, inr, arith}
+use Rattle.std.specs.Prelude.{◌==◌, nat_lt}
 use Rattle.std.specs.List.{list_all}
 use Rattle.std.proofs.lemmas.Bool.{and_parts, and_from, or_left, or_right, cond-true, cond-false, lt-ltb, true≢false}
 use Rattle.fdt_tree.specs.Tree.{Bytes, Property, Trees, none, tree, depth_limit}
@@ -15,11 +15,11 @@ use Rattle.fdt_source.specs.declared.state.Next.{Next}
 use Rattle.fdt_source.specs.declared.state.Next.TheVariants.{Body, Name, AfterName, Value, AfterValue, Closed}
 use Rattle.fdt_source.specs.declared.state.Action.{Action}
 use Rattle.fdt_source.specs.declared.state.Action.TheVariants.{Pass, StartName, PushName, StartValue, Give, GiveEmpty, Open, Close}
-use Rattle.fdt_source.specs.Turns.{Turn, to, pass, may_be_property, may_be_node, name_turn, gap_turn, in_name_turn, body_turn, outside_turn}
-use Rattle.fdt_source.specs.Readings.{Built, act, runs}
+use Rattle.fdt_source.specs.PrivateTurns.{Turn, to, pass, may_be_property, may_be_node, name_turn, gap_turn, body_turn, outside_turn}
+use Rattle.fdt_source.specs.PrivateReadings.{Built, act, runs}
 use Rattle.fdt_source.proofs.Running.{cont}
 use Rattle.fdt_source.proofs.Blanks.{IsGap, over_blank}
-use Rattle.fdt_source.proofs.Stops.{IsStop, Front, IsNameByte, property_plain, node_plain, stop_59, stop_61, stop_123, blank_front}
+use Rattle.fdt_source.proofs.Stops.{IsStop, IsNameByte, property_plain, node_plain, stop_59, stop_61, stop_123, blank_front}
 use Rattle.fdt_source.proofs.ValueLemmas.{valued, gap_value, gap_after_value, over_values}
 
 pub gap_body : (fresh : Bool) → IsGap (Body fresh)

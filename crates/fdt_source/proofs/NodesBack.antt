@@ -1,27 +1,26 @@
 -- Where the reader comes to an end, names, properties and nodes were what they are.
-use Rattle.std.proofs.Common.{◌≡◌, ◌∙◌, refl, sym, ap, subst, ℕ, suc, zero, ◌+◌, ◌<◌, ◌≤◌, Bool, true, false, not, ◌&&◌, ◌||◌, List, [], ◌∷◌, ◌++◌, length, append_assoc, append-nil, length-append, Option, Some, None, cond, inl, inr, arith, codes}
-use Rattle.std.specs.Prelude.{◌==◌, ◌⊎◌, nat_lt}
+use Rattle.std.proofs.Common.{◌≡◌, ◌∙◌, refl, sym, ap, ℕ, suc, zero, ◌<◌, ◌≤◌, Bool, true, false, ◌&&◌, ◌||◌, List, [], ◌∷◌, ◌++◌, length, append_assoc, append-nil, length-append, Some, None, cond, inl, inr, arith}
+use Rattle.std.specs.Prelude.{◌==◌, nat_lt}
 use Rattle.std.specs.List.{list_all}
 use Rattle.std.proofs.lemmas.Bool.{and_parts, and_from, eqb-true, ltb-true, true≢false}
 use Rattle.fdt_tree.specs.Tree.{Bytes, Property, Trees, none, tree, depth_limit}
 use Rattle.fdt_read.specs.Tokens.{Token as Mark, begin_node, end_node, property}
 use Rattle.fdt_read.specs.Spelling.{spelled_properties, spelled}
-use Rattle.fdt_source.specs.Characters.{is_property_byte, is_node_byte, is_space}
-use Rattle.fdt_source.specs.Source.{whole, IsBlank, AreEach, is_name_of, IsGiven, AreValues, IsProperty, AreNodes}
-use Rattle.fdt_source.specs.declared.state.Comment.TheVariants.{Outside, Slash}
+use Rattle.fdt_source.specs.Characters.{is_property_byte, is_node_byte}
+use Rattle.fdt_source.specs.Source.{whole, IsBlank, AreEach, is_name_of, IsGiven, IsProperty, AreNodes}
+use Rattle.fdt_source.specs.declared.state.Comment.TheVariants.{Outside}
 use Rattle.fdt_source.specs.declared.state.Kind.{Kind}
 use Rattle.fdt_source.specs.declared.state.Kind.TheVariants.{Either, Property as Proper, Node}
-use Rattle.fdt_source.specs.declared.state.Next.{Next}
-use Rattle.fdt_source.specs.declared.state.Next.TheVariants.{Body, Name, AfterName, Value, AfterValue, Closed}
+use Rattle.fdt_source.specs.declared.state.Next.TheVariants.{Body, Name, AfterName, Value, Closed}
 use Rattle.fdt_source.specs.declared.state.Action.{Action}
-use Rattle.fdt_source.specs.declared.state.Action.TheVariants.{Pass, StartName, PushName, StartValue, Give, GiveEmpty, Open, Close}
-use Rattle.fdt_source.specs.Turns.{Turn, to, pass, may_be_property, may_be_node, name_turn, gap_turn, is_over, is_done, depth_behind}
-use Rattle.fdt_source.specs.Readings.{Built, Stand, act, runs}
+use Rattle.fdt_source.specs.declared.state.Action.TheVariants.{StartName, PushName, StartValue, Give, GiveEmpty, Open, Close}
+use Rattle.fdt_source.specs.PrivateTurns.{to, pass, may_be_property, may_be_node, name_turn, gap_turn, is_done, depth_behind}
+use Rattle.fdt_source.specs.PrivateReadings.{Built, Stand, act, runs}
 use Rattle.fdt_source.proofs.Running.{cont}
 use Rattle.fdt_source.proofs.Nodes.{named, gap_body, gap_after_name, gap_closed, node_tokens}
 use Rattle.fdt_source.proofs.ValueLemmas.{valued}
-use Rattle.fdt_source.proofs.Peeling.{behind, no_blank, Gets, stops, nowhere, Token, IsToken, peel_token, token_gets}
-use Rattle.fdt_source.proofs.ValuesBack.{Valued, value_back, More, more_back, token_less}
+use Rattle.fdt_source.proofs.Peeling.{behind, Gets, stops, nowhere, Token, IsToken, peel_token, token_gets}
+use Rattle.fdt_source.proofs.ValuesBack.{value_back, more_back}
 
 module _ (fin : Stand) (done : is_done fin.0 fin.1 ≡ true) where
   pub token_body : (fresh : Bool) → IsToken fin done (Body fresh)

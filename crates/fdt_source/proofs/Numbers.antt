@@ -1,6 +1,6 @@
 -- The reader goes over numbers.
-use Rattle.std.proofs.Common.{◌≡◌, ◌∙◌, refl, sym, ap, subst, ℕ, ◌+◌, ◌*◌, ◌^◌, ◌<◌, ◌≤◌, Bool, true, false, not, ◌&&◌, List, [], ◌∷◌, ◌++◌, length, Option, Some, None, cond, inl, inr, arith, codes}
-use Rattle.std.specs.Prelude.{◌==◌, ◌⊎◌, nat_lt}
+use Rattle.std.proofs.Common.{◌≡◌, ◌∙◌, refl, sym, ap, subst, ℕ, ◌+◌, ◌*◌, ◌^◌, ◌<◌, ◌≤◌, Bool, true, false, not, [], ◌∷◌, ◌++◌, Some, None, cond, inl, inr, arith}
+use Rattle.std.specs.Prelude.{◌==◌, nat_lt}
 use Rattle.std.specs.Char.{digit_value}
 use Rattle.std.specs.List.{list_all}
 use Rattle.std.specs.Str.Parse.{digits_value, digits_value_after}
@@ -15,9 +15,9 @@ use Rattle.fdt_source.specs.declared.state.Next.{Next}
 use Rattle.fdt_source.specs.declared.state.Next.TheVariants.{Item, Address, AddressDigits, Size, SizeDigits, ReserveEnd, Cells, CellDigits, AfterValue}
 use Rattle.fdt_source.specs.declared.state.Action.{Action}
 use Rattle.fdt_source.specs.declared.state.Action.TheVariants.{Pass, SetAddress, AddReserve, PushWord}
-use Rattle.fdt_source.specs.Turns.{Turn, pass, with_digit, first_digit, is_digit_of, number_of, digits_turn, gap_turn, with_action, number_turn, outside_turn}
-use Rattle.fdt_source.specs.Readings.{Built, Stand, act, runs}
-use Rattle.fdt_source.proofs.Running.{cont, differs}
+use Rattle.fdt_source.specs.PrivateTurns.{Turn, pass, with_digit, first_digit, is_digit_of, number_of, digits_turn, gap_turn, with_action, number_turn, outside_turn}
+use Rattle.fdt_source.specs.PrivateReadings.{Built, act, runs}
+use Rattle.fdt_source.proofs.Running.{cont}
 use Rattle.fdt_source.proofs.Stops.{IsStop, digit_plain}
 
 rise_16 : (n k v : ℕ) → n * 16 + k ≤ v → n ≤ v

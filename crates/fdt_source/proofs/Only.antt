@@ -1,8 +1,6 @@
 -- A text says one thing.
-use Rattle.std.proofs.Common.{◌≡◌, ◌∙◌, sym, ap, List, Some}
-use Rattle.fdt_tree.specs.Tree.{Bytes, Tree}
-use Rattle.fdt_tree.specs.declared.reserve.Reserve.{Reserve}
-use Rattle.fdt_source.specs.Readings.{Built, Stand}
+use Rattle.std.proofs.Common.{◌≡◌, ◌∙◌, sym, ap}
+use Rattle.fdt_source.specs.PrivateReadings.{Built, Stand}
 use Rattle.fdt_source.specs.ReadLaws.{IsOne}
 use Rattle.fdt_source.specs.declared.state.Next.TheVariants.{Over}
 use Rattle.fdt_source.proofs.Running.{stand, same_stand}

@@ -1,20 +1,20 @@
 -- Where the reader comes to an end, spacing was spacing.
-use Rattle.std.proofs.Common.{◌≡◌, ◌∙◌, refl, sym, ap, subst, ℕ, suc, zero, ◌+◌, ◌<◌, ◌≤◌, Bool, true, false, not, ◌&&◌, List, [], ◌∷◌, ◌++◌, length, append_assoc, length-append, Option, Some, None, cond, inl, inr, arith, codes}
+use Rattle.std.proofs.Common.{◌≡◌, ◌∙◌, refl, sym, ap, subst, ℕ, suc, zero, ◌<◌, ◌≤◌, Bool, true, false, not, ◌&&◌, List, [], ◌∷◌, ◌++◌, length, append_assoc, length-append, Some, None, cond, inl, inr, arith}
 use Rattle.std.specs.Prelude.{◌==◌, ◌⊎◌}
 use Rattle.std.specs.List.{list_all, AllByRecursion}
-use Rattle.std.proofs.lemmas.Bool.{and_parts, and_from, and_right, eqb-true, true≢false}
+use Rattle.std.proofs.lemmas.Bool.{and_parts, and_from, eqb-true, true≢false}
 use Rattle.fdt_tree.specs.Tree.{Bytes}
 use Rattle.fdt_source.specs.Characters.{is_space}
-use Rattle.fdt_source.specs.Source.{whole, is_open, IsSpacing, IsBlank, IsOpenLine, IsLastBlank}
+use Rattle.fdt_source.specs.Source.{whole, is_open, IsSpacing, IsBlank, IsLastBlank}
 use Rattle.fdt_source.specs.declared.state.Comment.{Comment}
-use Rattle.fdt_source.specs.declared.state.Comment.TheVariants.{Outside, Fresh, Slash, ToFeed, ToStar, Star}
+use Rattle.fdt_source.specs.declared.state.Comment.TheVariants.{Outside, Slash, ToFeed, ToStar, Star}
 use Rattle.fdt_source.specs.declared.state.Next.{Next}
 use Rattle.fdt_source.specs.declared.state.Next.TheVariants.{Address, Size, Cells, Over}
 use Rattle.fdt_source.specs.declared.state.Action.TheVariants.{Pass}
-use Rattle.fdt_source.specs.Turns.{Turn, pass, spaced, token_turn, slash_turn, outside_turn, gap_turn, is_over, is_done, may_end}
-use Rattle.fdt_source.specs.Readings.{Built, Stand, runs}
+use Rattle.fdt_source.specs.PrivateTurns.{pass, spaced, token_turn, slash_turn, is_over, is_done, may_end}
+use Rattle.fdt_source.specs.PrivateReadings.{Built, Stand, runs}
 use Rattle.fdt_source.proofs.Running.{cont, stand, same_stand}
-use Rattle.fdt_source.proofs.Blanks.{IsGap, gap_spaced, slash_here, comment_at, behind_star}
+use Rattle.fdt_source.proofs.Blanks.{IsGap, gap_spaced, comment_at, behind_star}
 
 -- What comes next behind some spacing or none.
 abbrev pub behind : Bytes → Next → Next

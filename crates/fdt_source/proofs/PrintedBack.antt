@@ -1,8 +1,8 @@
 -- What is printed says what it was printed from.
-use Rattle.std.proofs.Common.{◌≡◌, ◌∙◌, refl, sym, ap, subst, ℕ, suc, zero, ◌+◌, ◌^◌, ◌<◌, ◌≤◌, max, Bool, true, false, not, ◌&&◌, cond, List, [], ◌∷◌, ◌++◌, length, filter, replicate, append_assoc, append-nil, inl, inr, arith, codes, IsTrue}
-use Rattle.std.specs.Prelude.{◌==◌, ◌⊎◌, flat_map}
+use Rattle.std.proofs.Common.{◌≡◌, ◌∙◌, refl, sym, ap, ℕ, suc, zero, ◌+◌, ◌<◌, ◌≤◌, max, true, false, not, cond, List, [], ◌∷◌, ◌++◌, length, filter, replicate, append_assoc, append-nil, inl, inr, arith, codes}
+use Rattle.std.specs.Prelude.{◌==◌, flat_map}
 use Rattle.std.specs.List.{list_all, AllByRecursion}
-use Rattle.std.proofs.lemmas.Bool.{and_parts, ne_eqb}
+use Rattle.std.proofs.lemmas.Bool.{and_parts}
 use Rattle.std.proofs.lemmas.Bool.Decides.{nat_tests}
 use Rattle.std.proofs.lemmas.List.Elements.{recursion_from_All}
 use Rattle.dl_base.specs.NumberTexts.{hexadecimal}
@@ -10,10 +10,10 @@ use Rattle.fdt_tree.specs.Tree.{Bytes, Property, Trees, none, tree, Tree, depth_
 use Rattle.fdt_tree.specs.Whole.{height}
 use Rattle.fdt_tree.specs.declared.reserve.Reserve.{Reserve}
 use Rattle.fdt_read.specs.Reservations.{is_last_pair}
-use Rattle.fdt_write.specs.Laws.{IsWide, AreReserves}
-use Rattle.fdt_source.specs.Characters.{is_property_byte, is_node_byte, is_space}
-use Rattle.fdt_source.specs.Printed.{value_text, after_name, line, property_line, properties_lines, trees_lines, tree_lines, reserve_line, printed}
-use Rattle.fdt_source.specs.Source.{whole, IsSpacing, IsBlank, AreEach, IsReserve, is_said, AreReserves as SaysReserves, is_name_of, IsGiven, IsProperty, IsBody, AreNodes, IsRoot, IsSource}
+use Rattle.fdt_write.specs.Laws.{IsWide}
+use Rattle.fdt_source.specs.Characters.{is_space}
+use Rattle.fdt_source.specs.Printed.{value_text, after_name, properties_lines, trees_lines, tree_lines, reserve_line}
+use Rattle.fdt_source.specs.Source.{whole, IsSpacing, IsBlank, AreEach, IsReserve, is_said, IsProperty, AreNodes, IsRoot}
 use Rattle.fdt_source.specs.ReadLaws.{IsPlain, ArePlain, IsPrintable, IsReadBack}
 use Rattle.fdt_source.proofs.Peeling.{no_blank, more_blank}
 use Rattle.fdt_source.proofs.ValuesPrinted.{space, space_separates, number_printed, values_printed}

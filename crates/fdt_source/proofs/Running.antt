@@ -1,12 +1,12 @@
 -- The reader over a text is the reader over its front and then over the rest.
-use Rattle.std.proofs.Common.{◌≡◌, ◌∙◌, refl, sym, ap, ℕ, Bool, true, false, List, [], ◌∷◌, ◌++◌, Option, Some, None, cond}
+use Rattle.std.proofs.Common.{◌≡◌, ◌∙◌, refl, sym, ap, ℕ, Bool, true, false, [], ◌∷◌, ◌++◌, Option, Some, None}
 use Rattle.std.specs.Prelude.{option_and_then, ◌==◌}
-use Rattle.std.proofs.lemmas.Bool.{eqb-true, eq-eqb, true≢false}
+use Rattle.std.proofs.lemmas.Bool.{eqb-true, true≢false}
 use Rattle.fdt_tree.specs.Tree.{Bytes}
 use Rattle.fdt_source.specs.declared.state.Comment.{Comment}
 use Rattle.fdt_source.specs.declared.state.Next.{Next}
-use Rattle.fdt_source.specs.Turns.{Turn, turn, depth_behind}
-use Rattle.fdt_source.specs.Readings.{Built, Stand, act, runs}
+use Rattle.fdt_source.specs.PrivateTurns.{Turn, turn, depth_behind}
+use Rattle.fdt_source.specs.PrivateReadings.{Built, Stand, act, runs}
 
 -- Where the reader stands.
 abbrev pub stand : Comment → Next → ℕ → Built → Stand

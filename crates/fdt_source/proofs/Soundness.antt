@@ -1,29 +1,29 @@
 -- What the reader goes over to its end is a source, and what it adds is what the source says.
-use Rattle.std.proofs.Common.{◌≡◌, ◌∙◌, refl, sym, ap, subst, ℕ, suc, zero, ◌^◌, ◌<◌, ◌≤◌, lit≤, Bool, true, false, not, ◌&&◌, List, [], ◌∷◌, ◌++◌, length, drop, filter, append_assoc, append-nil, length-append, Option, Some, None, cond, inl, inr, arith, codes}
-use Rattle.std.specs.Prelude.{◌==◌, ◌⊎◌, slice_get}
-use Rattle.std.proofs.lemmas.Bool.{and_parts, eqb-true, true≢false}
+use Rattle.std.proofs.Common.{◌≡◌, ◌∙◌, refl, sym, ap, ℕ, suc, zero, ◌^◌, ◌≤◌, lit≤, Bool, true, false, not, List, [], ◌∷◌, ◌++◌, length, drop, filter, append_assoc, append-nil, length-append, Option, Some, None, cond, inl, inr, arith, codes}
+use Rattle.std.specs.Prelude.{◌==◌, slice_get}
+use Rattle.std.proofs.lemmas.Bool.{eqb-true, true≢false}
 use Rattle.fdt_tree.specs.Tree.{Bytes, Tree}
 use Rattle.fdt_tree.specs.declared.reserve.Reserve.{Reserve}
-use Rattle.fdt_read.specs.Tokens.{Token as Mark, begin_node}
+use Rattle.fdt_read.specs.Tokens.{begin_node}
 use Rattle.fdt_read.specs.Spelling.{spelled_properties, spelled}
 use Rattle.fdt_source.specs.Characters.{is_space}
-use Rattle.fdt_source.specs.Source.{whole, IsBlank, IsSeparator, begins_no_comment, IsLastBlank, IsReserve, AreEach, is_said, IsVersion, IsRoot, IsSource}
-use Rattle.fdt_source.specs.declared.state.Comment.TheVariants.{Outside, Fresh, Slash}
+use Rattle.fdt_source.specs.Source.{whole, IsBlank, IsSeparator, begins_no_comment, IsReserve, AreEach, is_said, IsRoot, IsSource}
+use Rattle.fdt_source.specs.declared.state.Comment.TheVariants.{Outside, Fresh}
 use Rattle.fdt_source.specs.declared.state.Keyword.{Keyword}
 use Rattle.fdt_source.specs.declared.state.Keyword.TheVariants as keywords
 use Rattle.fdt_source.specs.declared.state.Digits.{Digits}
 use Rattle.fdt_source.specs.declared.state.Next.{Next}
 use Rattle.fdt_source.specs.declared.state.Next.TheVariants.{Start, Word, VersionEnd, Item, Address, AddressDigits, Size, SizeDigits, ReserveEnd, RootOpen, Body, Closed, Over}
 use Rattle.fdt_source.specs.declared.state.Action.TheVariants.{Pass, SetAddress, AddReserve}
-use Rattle.fdt_source.specs.Turns.{Turn, pass, gap_turn, digits_turn, first_digit, token_turn, slash_turn, word_turn, word_text, after_word, is_over, is_done}
-use Rattle.fdt_source.specs.Readings.{Built, Stand, act, runs, reached, unread, with_reserve}
+use Rattle.fdt_source.specs.PrivateTurns.{Turn, pass, gap_turn, digits_turn, first_digit, token_turn, slash_turn, word_turn, word_text, after_word, is_over, is_done}
+use Rattle.fdt_source.specs.PrivateReadings.{Built, Stand, reached, unread, with_reserve}
 use Rattle.fdt_source.proofs.Running.{cont, differs}
 use Rattle.fdt_source.proofs.Blanks.{IsGap, root_gap}
 use Rattle.fdt_source.proofs.Numbers.{address_numeric, size_numeric}
 use Rattle.fdt_source.proofs.Completeness.{gap_start, gap_version_end, gap_item, gap_address, gap_size, gap_reserve_end, gap_over, said_first}
 use Rattle.fdt_source.proofs.Peeling.{behind, no_blank, more_blank, Gets, stops, nowhere, Peeled, Ended, Slashed, Token, IsToken, peel, peel_token, token_gets, same_behind}
-use Rattle.fdt_source.proofs.ValuesBack.{Numbered, number_back, token_less}
-use Rattle.fdt_source.proofs.NodesBack.{Bodied, body_back, token_closed}
+use Rattle.fdt_source.proofs.ValuesBack.{number_back}
+use Rattle.fdt_source.proofs.NodesBack.{body_back, token_closed}
 
 -- An item of a list.
 nth : (xs : Bytes) (i c : ℕ) (left : Bytes) → drop i xs ≡ c ∷ left → (slice_get xs i ≡ Some c) × (drop (suc i) xs ≡ left)

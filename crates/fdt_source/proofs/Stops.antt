@@ -1,11 +1,11 @@
 -- Bytes that are no part of a number or a name, and bytes that are no spacing.
-use Rattle.std.proofs.Common.{◌≡◌, ◌∙◌, refl, sym, ap, subst, ℕ, ◌<◌, Bool, true, false, not, ◌&&◌, ◌||◌, List, [], ◌∷◌, ◌++◌, length, append_assoc, inl, inr, arith}
+use Rattle.std.proofs.Common.{◌≡◌, ◌∙◌, refl, sym, ap, subst, ℕ, ◌<◌, Bool, true, false, ◌||◌, List, [], ◌∷◌, ◌++◌, length, append_assoc, inl, inr, arith}
 use Rattle.std.specs.Prelude.{◌==◌, ◌⊎◌, nat_lt}
 use Rattle.std.specs.Char.{digit_value}
 use Rattle.std.specs.List.{AllByRecursion}
-use Rattle.std.proofs.lemmas.Bool.{ltb-true, le-ltb, lt-ltb, ltb-false, eqb-true, or_cases, true≢false, false_from_ne_true}
+use Rattle.std.proofs.lemmas.Bool.{eqb-true, or_cases}
 use Rattle.fdt_tree.specs.Tree.{Bytes}
-use Rattle.fdt_source.specs.Characters.{is_property_byte, is_node_byte, is_string_byte, is_space}
+use Rattle.fdt_source.specs.Characters.{is_property_byte, is_node_byte, is_space}
 use Rattle.fdt_source.specs.Source.{whole, IsSpacing, IsBlank}
 use Rattle.fdt_source.proofs.Running.{differs}
 

@@ -1,12 +1,12 @@
 -- What a byte adds to what is kept in memory.
-use Rattle.std.proofs.Common.{◌≡◌, ◌∙◌, refl, subst, ℕ, suc, List, [], ◌∷◌, ◌++◌, Some}
+use Rattle.std.proofs.Common.{◌≡◌, ◌∙◌, subst, ℕ, suc, [], ◌∷◌, ◌++◌, Some}
 use Rattle.fdt_tree.specs.Tree.{Bytes}
 use Rattle.fdt_read.specs.Tokens.{begin_node, end_node, property}
 use Rattle.fdt_source.specs.declared.state.Action.TheVariants.{Give, GiveEmpty, Open, Close}
 use Rattle.fdt_source.specs.declared.growing.Growing.{Growing}
 use Rattle.fdt_source.specs.declared.reading.Reading.{Reading}
-use Rattle.fdt_source.specs.Turns.{above}
-use Rattle.fdt_source.specs.Readings.{Built, IsGrown, IsRead, act}
+use Rattle.fdt_source.specs.PrivateTurns.{above}
+use Rattle.fdt_source.specs.PrivateReadings.{Built, IsGrown, IsRead, act}
 
 -- With another tree.
 abbrev pub with_growing : Reading → Growing → Reading

@@ -1,23 +1,21 @@
 -- The reader goes over values.
-use Rattle.std.proofs.Common.{◌≡◌, ◌∙◌, refl, sym, ap, subst, ℕ, ◌+◌, ◌*◌, ◌^◌, ◌<◌, Bool, true, false, not, ◌&&◌, List, [], ◌∷◌, ◌++◌, length, append_assoc, append-nil, Option, Some, None, cond, inl, inr, codes}
-use Rattle.std.specs.Prelude.{◌==◌, ◌⊎◌, nat_lt, flat_map}
+use Rattle.std.proofs.Common.{◌≡◌, ◌∙◌, refl, sym, ap, ℕ, ◌+◌, ◌*◌, ◌^◌, Bool, true, false, ◌&&◌, List, [], ◌∷◌, ◌++◌, append_assoc, append-nil, Some, None, cond, inl, inr}
+use Rattle.std.specs.Prelude.{◌==◌, nat_lt, flat_map}
 use Rattle.std.specs.Char.{digit_value}
 use Rattle.std.specs.Int.{w32, to_be_bytes}
 use Rattle.std.specs.List.{list_all}
-use Rattle.std.specs.Str.Parse.{digits_value}
 use Rattle.std.proofs.lemmas.Bool.{and_parts, cond-true, cond-false}
 use Rattle.fdt_tree.specs.Tree.{Bytes}
 use Rattle.fdt_source.specs.Characters.{is_string_byte, is_space}
-use Rattle.fdt_source.specs.Source.{whole, IsBlank, AreEach, AreWords, IsPair, IsQuoted, IsCells, IsByteRow, IsValue, IsNextValue, AreValues}
+use Rattle.fdt_source.specs.Source.{whole, AreEach, AreWords, IsPair, IsValue, IsNextValue, AreValues}
 use Rattle.fdt_source.specs.declared.state.Comment.TheVariants.{Outside, Slash}
-use Rattle.fdt_source.specs.declared.state.Next.{Next}
-use Rattle.fdt_source.specs.declared.state.Next.TheVariants.{Body, Value, Quoted, Cells, CellDigits, Pairs, Half, AfterValue}
+use Rattle.fdt_source.specs.declared.state.Next.TheVariants.{Value, Quoted, Cells, CellDigits, Pairs, Half, AfterValue}
 use Rattle.fdt_source.specs.declared.state.Action.TheVariants.{Pass, PushByte, PushWord}
-use Rattle.fdt_source.specs.Turns.{Turn, to, pass, outside_turn}
-use Rattle.fdt_source.specs.Readings.{Built, Stand, act, runs}
+use Rattle.fdt_source.specs.PrivateTurns.{to, pass, outside_turn}
+use Rattle.fdt_source.specs.PrivateReadings.{Built, runs}
 use Rattle.fdt_source.proofs.Running.{cont, differs}
 use Rattle.fdt_source.proofs.Blanks.{IsGap, over_blank, over_any, over_separator}
-use Rattle.fdt_source.proofs.Stops.{Front, stop_62, blank_front, separator_front, digit_plain}
+use Rattle.fdt_source.proofs.Stops.{stop_62, blank_front, separator_front, digit_plain}
 use Rattle.fdt_source.proofs.Numbers.{cell_numeric, first_cell, over_number, first_16}
 
 -- With another value.

@@ -1,28 +1,27 @@
 -- Where the reader comes to an end, numbers were numbers, and values were values.
-use Rattle.std.proofs.Common.{◌≡◌, ◌∙◌, refl, sym, ap, subst, ℕ, suc, zero, ◌+◌, ◌*◌, ◌^◌, ◌<◌, ◌≤◌, lit≤, Bool, true, false, not, ◌&&◌, List, [], ◌∷◌, ◌++◌, length, append_assoc, append-nil, length-append, Option, Some, None, cond, inl, inr, arith, codes}
-use Rattle.std.specs.Prelude.{◌==◌, ◌⊎◌, nat_lt, flat_map}
+use Rattle.std.proofs.Common.{◌≡◌, ◌∙◌, refl, sym, ap, subst, ℕ, suc, zero, ◌+◌, ◌*◌, ◌^◌, ◌<◌, ◌≤◌, lit≤, Bool, true, false, not, ◌&&◌, List, [], ◌∷◌, ◌++◌, length, append_assoc, append-nil, length-append, Some, None, cond, inl, inr, arith}
+use Rattle.std.specs.Prelude.{◌==◌, nat_lt, flat_map}
 use Rattle.std.specs.Char.{digit_value}
 use Rattle.std.specs.Int.{w32, to_be_bytes}
 use Rattle.std.specs.List.{list_all}
 use Rattle.std.specs.Str.Parse.{digits_value, digits_value_after}
-use Rattle.std.proofs.lemmas.Bool.{and_from, eqb-true, ltb-true, true≢false}
+use Rattle.std.proofs.lemmas.Bool.{and_from, eqb-true, ltb-true}
 use Rattle.fdt_tree.specs.Tree.{Bytes}
-use Rattle.fdt_source.specs.Characters.{is_string_byte, is_space}
-use Rattle.fdt_source.specs.Source.{whole, IsBlank, IsSeparator, are_digits, is_decimal, IsNumber, AreEach, AreWords, IsPair, IsValue, IsNextValue, AreValues}
-use Rattle.fdt_source.specs.declared.state.Comment.TheVariants.{Outside, Slash}
+use Rattle.fdt_source.specs.Characters.{is_string_byte}
+use Rattle.fdt_source.specs.Source.{whole, IsBlank, IsSeparator, are_digits, is_decimal, IsNumber, AreEach, AreWords, IsPair, IsValue, IsNextValue}
+use Rattle.fdt_source.specs.declared.state.Comment.TheVariants.{Outside}
 use Rattle.fdt_source.specs.declared.state.Digits.{Digits}
 use Rattle.fdt_source.specs.declared.state.Digits.TheVariants.{Zero, Prefix, Hexadecimal, Decimal}
 use Rattle.fdt_source.specs.declared.state.Next.{Next}
 use Rattle.fdt_source.specs.declared.state.Next.TheVariants.{Body, Value, Quoted, Cells, CellDigits, Pairs, Half, AfterValue}
 use Rattle.fdt_source.specs.declared.state.Action.{Action}
-use Rattle.fdt_source.specs.declared.state.Action.TheVariants.{Pass, PushByte, PushWord, Give}
-use Rattle.fdt_source.specs.Turns.{Turn, to, pass, token_turn, cells_turn, digits_turn, with_digit, first_digit, is_digit_of, number_turn, outside_turn, is_over, is_done, with_action, gap_turn, number_of}
-use Rattle.fdt_source.specs.Readings.{Built, Stand, act, runs}
+use Rattle.fdt_source.specs.declared.state.Action.TheVariants.{PushByte, PushWord, Give}
+use Rattle.fdt_source.specs.PrivateTurns.{to, pass, token_turn, digits_turn, first_digit, number_turn, is_over, is_done, with_action, gap_turn}
+use Rattle.fdt_source.specs.PrivateReadings.{Built, Stand, act, runs}
 use Rattle.fdt_source.proofs.Running.{cont}
-use Rattle.fdt_source.proofs.Blanks.{IsGap}
 use Rattle.fdt_source.proofs.Numbers.{IsNumeric, cell_numeric, ended_here, first_16, first_10}
 use Rattle.fdt_source.proofs.ValueLemmas.{valued, twice, never, gap_value, gap_after_value, gap_cells, gap_pairs}
-use Rattle.fdt_source.proofs.Peeling.{behind, no_blank, blank_twice, Gets, stops, nowhere, Token, IsToken, peel_token, token_gets}
+use Rattle.fdt_source.proofs.Peeling.{behind, Gets, stops, nowhere, Token, IsToken, peel_token, token_gets}
 
 -- A byte that is no wanted one leads nowhere.
 module _ (fin : Stand) (done : is_done fin.0 fin.1 ≡ true) where

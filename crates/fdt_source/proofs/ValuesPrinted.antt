@@ -1,19 +1,19 @@
 -- A printed value says the bytes that it was printed from.
 use Rattle.std.proofs.Common.{◌≡◌, ◌∙◌, refl, sym, ap, subst, ℕ, suc, zero, ◌+◌, ◌*◌, ◌/◌, ◌%◌, ◌^◌, ◌<◌, Bool, true, false, not, ◌&&◌, cond, List, [], ◌∷◌, ◌++◌, length, get_or, map, append_assoc, append-nil, inl, inr, arith, codes}
-use Rattle.std.specs.Prelude.{◌==◌, ◌⊎◌, nat_lt, flat_map}
+use Rattle.std.specs.Prelude.{◌==◌, nat_lt, flat_map}
 use Rattle.std.specs.Char.{digit_value}
 use Rattle.std.specs.Fmt.{digits, digits_onto, digit_glyph}
 use Rattle.std.specs.Int.{w32, to_be_bytes, from_be_bytes}
 use Rattle.std.specs.List.{list_all, AllByRecursion, slice_split, join_with_byte}
 use Rattle.std.specs.Str.Parse.{digits_value, digits_value_after}
 use Rattle.std.proofs.Math.Nat.{pow-suc}
-use Rattle.std.proofs.lemmas.Bool.{and_parts, and_from, eqb-true, eqb-false, ne_eqb, true≢false}
+use Rattle.std.proofs.lemmas.Bool.{and_parts, and_from, eqb-true, true≢false}
 use Rattle.std.proofs.lemmas.Bool.Decides.{nat_tests}
 use Rattle.std.proofs.lemmas.List.Splits.{join_with_byte-slice_split}
 use Rattle.std.proofs.lemmas.Nat.{be_bytes_4}
 use Rattle.dl_base.specs.NumberTexts.{hexadecimal}
 use Rattle.fdt_tree.specs.Tree.{Bytes}
-use Rattle.fdt_tree.specs.Values.{strings, all_but_last}
+use Rattle.fdt_tree.specs.Values.{all_but_last}
 use Rattle.fdt_source.specs.Characters.{is_string_byte, is_space}
 use Rattle.fdt_source.specs.Printed.{behind_marks, joined, is_string, are_ended_strings, is_text, quoted, words, digit_text, pair_text, strings_text, words_text, bytes_text, value_text}
 use Rattle.fdt_source.specs.Source.{whole, IsSpacing, IsBlank, IsSeparator, are_digits, IsNumber, AreEach, AreWords, IsPair, IsValue, IsNextValue, AreValues}

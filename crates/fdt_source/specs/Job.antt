@@ -1,14 +1,16 @@
 -- What a run is called to do by its words and by the files.
-use Rattle.std.specs.Prelude.{ℕ, List, [], codes, Option, Some, None}
+use Rattle.std.specs.Prelude.{ℕ, ◌<◌, ◌≤◌, ◌⊎◌, List, [], ◌∷◌, length, codes, Option, Some, None}
 use Rattle.dl_base.specs.Outside.{File}
 use Rattle.dl_base.specs.declared.status.Status.TheVariants as statuses
+use Rattle.fdt_write.specs.Flattened.{flattened, length_limit}
 use Rattle.run_steps.specs.Endings.{Outcome}
 use Rattle.run_steps.specs.Steps.{IsRefusal, IsWriting}
 use Rattle.run_steps.specs.Trees.{FlatTree, AfterTreeFile}
 use Rattle.fdt_source.specs.BadNames.{first_bad}
 use Rattle.fdt_source.specs.Printed.{printed}
-use Rattle.fdt_source.specs.Messages.{bad_name_message}
-use Rattle.fdt_source.specs.Words.{asked}
+use Rattle.fdt_source.specs.Messages.{bad_name_message, too_long_message}
+use Rattle.fdt_source.specs.Texts.{SourceTree, AfterTextFile}
+use Rattle.fdt_source.specs.Words.{Asked, Print, Build, asked}
 
 -- the first node with a name that cannot be printed is refused; where there is none, the tree's text is the report
 abbrev pub OnBadName : List ℕ → FlatTree → Option (List ℕ) → Outcome → Type 0
@@ -19,14 +21,25 @@ OnBadName name tree None outcome = IsWriting [] (printed tree.reserves tree.root
 abbrev pub IsPrinting : List ℕ → FlatTree → Outcome → Type 0
 IsPrinting name tree outcome = OnBadName name tree (first_bad tree.root) outcome
 
--- what is asked for: the tree is read, and printed
-abbrev pub IsAskedJob : Option (List File) → List ℕ → Outcome → Type 0
-IsAskedJob told name outcome = AfterTreeFile told name (IsPrinting name) outcome
+-- the bytes of a tree that a text says: processor 0 boots
+abbrev pub tree_of : SourceTree → List ℕ
+tree_of tree = flattened tree.reserves 0 tree.root
+
+-- what the tree of a text calls for that is written under a name: it is the one output, or it is too long and refused
+abbrev pub IsBuilding : List ℕ → SourceTree → Outcome → Type 0
+IsBuilding out tree outcome =
+    ((length_limit < length (tree_of tree)) × IsRefusal statuses.Refused (too_long_message out (length (tree_of tree))) outcome)
+    ⊎ ((length (tree_of tree) ≤ length_limit) × IsWriting ((out, tree_of tree) ∷ []) [] outcome)
+
+-- what is asked for: a tree is read, and printed; or a text is read, and its tree is written
+abbrev pub IsAskedJob : Option (List File) → Asked → Outcome → Type 0
+IsAskedJob told (Print tree) outcome = AfterTreeFile told tree (IsPrinting tree) outcome
+IsAskedJob told (Build text out) outcome = AfterTextFile told text (IsBuilding out) outcome
 
 -- other words are refused
-abbrev pub IsWordsJob : Option (List File) → Option (List ℕ) → Outcome → Type 0
+abbrev pub IsWordsJob : Option (List File) → Option Asked → Outcome → Type 0
 IsWordsJob told None outcome = IsRefusal statuses.Words (codes "usage") outcome
-IsWordsJob told (Some name) outcome = IsAskedJob told name outcome
+IsWordsJob told (Some asked) outcome = IsAskedJob told asked outcome
 
 -- the words and the files call for this outcome, by what the files hold where that is told, and else by some answers of theirs
 abbrev pub CallsFor : List (List ℕ) → Option (List File) → Outcome → Type 0

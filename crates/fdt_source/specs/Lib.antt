@@ -4,9 +4,11 @@ pub mod Job
 pub mod Laws
 pub mod Messages
 pub mod Printed
+pub mod PrivateMeant
 pub mod PrivateOpened
+pub mod PrivateReadings
+pub mod PrivateTurns
 pub mod ReadLaws
-pub mod Readings
 pub mod Source
-pub mod Turns
+pub mod Texts
 pub mod Words

@@ -1,5 +1,5 @@
 -- What source means.
-use Rattle.std.specs.Prelude.{◌≡◌, ℕ, suc, ◌^◌, ◌<◌, ◌≤◌, List, [], IsTrue}
+use Rattle.std.specs.Prelude.{◌≡◌, suc, ◌<◌, ◌≤◌, List, [], IsTrue}
 use Rattle.std.specs.List.{AllByRecursion}
 use Rattle.fdt_tree.specs.Tree.{Bytes, Property, Trees, none, tree, Tree, depth_limit}
 use Rattle.fdt_tree.specs.Whole.{height}

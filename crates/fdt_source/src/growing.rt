@@ -3,8 +3,8 @@ ghost use Rattle.std.specs.Prelude.{◌≡◌, ◌==◌, ℕ, suc, not, List, []
 ghost use Rattle.std.specs.List.{list_all};
 ghost use Rattle.fdt_tree.specs.Tree.{is_node_name};
 ghost use Rattle.fdt_read.specs.Tokens.{Token, begin_node, end_node, property};
-ghost use Rattle.fdt_source.specs.Turns.{above};
-ghost use Rattle.fdt_source.specs.Readings.{IsGrown};
+ghost use Rattle.fdt_source.specs.PrivateTurns.{above};
+ghost use Rattle.fdt_source.specs.PrivateReadings.{IsGrown};
 
 use fdt_tree::{NodeId, Tree};
 use std::alloc::AllocError;

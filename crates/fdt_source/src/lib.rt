@@ -1,5 +1,5 @@
 //! Device tree source (Devicetree Specification 0.4, appendix A): the one printed text of a tree, and a reader of a
-//! stated subset.
+//! stated subset; and the call of the program that prints trees and builds them of text.
 #![tactic(auto)]
 
 mod characters;
@@ -7,6 +7,7 @@ mod fault;
 mod growing;
 pub mod laws;
 mod lines;
+mod messages;
 mod opened;
 mod pieces;
 mod prepare;
@@ -15,7 +16,9 @@ mod read;
 mod reading;
 mod state;
 mod tabs;
+mod text_building;
 mod top;
+mod tree_printing;
 mod turns;
 mod values;
 mod words;

@@ -1,8 +1,8 @@
 // What is read of a text so far.
 ghost use Rattle.std.specs.Prelude.{◌≡◌, ◌++◌, ◌∷◌, [], ℕ, IfOk, OnOk};
 ghost use Rattle.std.specs.Int.{w32, to_be_bytes};
-ghost use Rattle.fdt_source.specs.Turns.{depth_behind};
-ghost use Rattle.fdt_source.specs.Readings.{Built, IsRead, act, unread, with_reserve};
+ghost use Rattle.fdt_source.specs.PrivateTurns.{depth_behind};
+ghost use Rattle.fdt_source.specs.PrivateReadings.{Built, IsRead, act, unread, with_reserve};
 
 use crate::growing::{Growing, close, give, open};
 use crate::state::Action;

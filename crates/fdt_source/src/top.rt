@@ -1,15 +1,16 @@
 // The top call.
-ghost use Rattle.std.specs.Prelude.{◌≡◌, ◌≢◌, ◌⊎◌, ◌↔◌, IsNone, IfSome, Some, None, map, string_bytes, codes};
+ghost use Rattle.std.specs.Prelude.{◌≡◌, ◌≢◌, ◌⊎◌, ◌↔◌, ◌∷◌, [], IsNone, IfSome, Some, None, map, string_bytes, codes};
 ghost use Rattle.dl_base.specs.Outside.{Rose, and_bytes, TookPrefix};
 ghost use Rattle.run_steps.specs.Messages.{memory_message, file_message};
-ghost use Rattle.run_steps.specs.Endings.{Refuses, Builds, Said, and_files, TookUpTo};
+ghost use Rattle.run_steps.specs.Endings.{Refuses, Builds, Said, and_files, TookUpTo, HasRoom};
 ghost use Rattle.run_steps.specs.Laws.{AnswersUnless};
 ghost use Rattle.run_steps.specs.Trees.{IsTreeFile};
-ghost use Rattle.fdt_source.specs.Words.{asked};
+ghost use Rattle.fdt_source.specs.Words.{Print, Build, asked};
 ghost use Rattle.fdt_source.specs.Messages.{line};
 ghost use Rattle.fdt_source.specs.BadNames.{first_bad};
 ghost use Rattle.fdt_source.specs.Printed.{printed};
-ghost use Rattle.fdt_source.specs.Job.{IsJob, CallsFor};
+ghost use Rattle.fdt_source.specs.Texts.{IsTextFile};
+ghost use Rattle.fdt_source.specs.Job.{tree_of, IsJob, CallsFor};
 
 use crate::prepare::prepare;
 use crate::words::read_words;
@@ -20,10 +21,11 @@ use std::alloc::Global;
 /// The program's name, with which each of its lines begins.
 const PROGRAM: &str = "fdt_source";
 
-/// Prints a flattened device tree as device tree source on `out`. The answer is the program's status; a line on `err` says
-/// why it is not `Built`.
+/// Prints a flattened device tree as device tree source on `out`; or reads device tree source, and writes its tree flattened,
+/// with processor 0 as the one that boots. The answer is the program's status; a line on `err` says why it is not `Built`.
 ///
-/// `words` are those of the command line, the program's name first: `print TREE`. All bytes are made before the first write.
+/// `words` are those of the command line, the program's name first: `print TREE`, or `build TEXT OUT`. All bytes are made
+/// before the first write.
 pub fn run<F: Files, O: Outs, S: Sink, E: Sink>(
     alloc: Global,
     words: &[String],
@@ -32,12 +34,18 @@ pub fn run<F: Files, O: Outs, S: Sink, E: Sink>(
     out: &mut S,
     err: &mut E,
 ) -> Status
-    // The headline: standard output is given the one text of the tree that the file spells, and nothing else is written.
-    ensures headline { (name : _) → asked (map string_bytes words.now) ≡ Some name → result ≡ Status.Built → (tree : _)
+    // The headline of printing: standard output is given the one text of the tree that the file spells, and nothing else is written.
+    ensures headline_print { (name : _) → asked (map string_bytes words.now) ≡ Some (Print name) → result ≡ Status.Built → (tree : _)
         × IsTreeFile (F.held files.old) name tree
         × (first_bad tree.root ≡ None)
         × (O.written outs.new ≡ O.written outs.old)
         × (S.taken out.new ≡ and_bytes (S.taken out.old) (printed tree.reserves tree.root)) }
+
+    // The headline of building: the one output is the tree that the text says, and nothing else is written.
+    ensures headline_build { (text out_name : _) → asked (map string_bytes words.now) ≡ Some (Build text out_name) → result ≡ Status.Built → (tree : _)
+        × IsTextFile (F.held files.old) text tree
+        × (O.written outs.new ≡ and_files (O.written outs.old) ((out_name, tree_of tree) ∷ []))
+        × (S.taken out.new ≡ S.taken out.old) }
 
     // Built: the outputs and the report that the words and the files call for were taken, and nothing was said.
     ensures built { result ≡ Status.Built → (outputs : _) × (report : _)
@@ -53,7 +61,7 @@ pub fn run<F: Files, O: Outs, S: Sink, E: Sink>(
     ensures words { (result ≡ Status.Words) ↔ IsNone (asked (map string_bytes words.now)) }
     ensures usage { result ≡ Status.Words → Said E.taken E.faults err.old err.new (line (codes "usage")) }
 
-    // A name is refused, or the file's bytes are: as the files call for, with its line.
+    // A name or the tree's length is refused, or the file's bytes are: as the files call for, with its line.
     ensures refused { result ≡ Status.Refused → (message : _)
         × Said E.taken E.faults err.old err.new (line message)
         × CallsFor (map string_bytes words.now) (F.held files.old) (Refuses result message) }
@@ -85,6 +93,11 @@ pub fn run<F: Files, O: Outs, S: Sink, E: Sink>(
         × (O.written outs.new ≡ and_files (O.written outs.old) outputs)
         × TookPrefix (S.taken out.old) (S.taken out.new) report)) }
 
+    // A write fails only where the output and the report that the words and the files call for find no room that is told.
+    ensures room { result ≡ Status.Write → (outputs : _) × (report : _)
+        × CallsFor (map string_bytes words.now) (F.held files.old) (Builds outputs report)
+        × (HasRoom (O.room outs.old) (S.room out.old) outputs report → ⊥) }
+
     // Where the files tell what they hold and no read failed, the answer is what they call for, or want of memory.
     ensures exact { IfSome (F.held files.old) (λ held. (outcome : _) → IsJob (map string_bytes words.now) held outcome → AnswersUnless (Rose (F.faults files.old) (F.faults files.new)) result outcome) }
 
@@ -96,11 +109,11 @@ pub fn run<F: Files, O: Outs, S: Sink, E: Sink>(
     // The files hold what they held.
     ensures files_kept { F.held files.new ≡ F.held files.old }
 {
-    let Some(name) = read_words(words) else {
+    let Some(asked) = read_words(words) else {
         say(err, PROGRAM, b"usage");
         return Status::Words;
     };
-    match prepare(alloc, name, files) {
+    match prepare(alloc, &asked, files) {
         Ok(build) => write_all(PROGRAM, &build, outs, out, err),
         Err(Stop::Memory) => {
             say(err, PROGRAM, b"out of memory");

@@ -2,7 +2,7 @@
 ghost use Rattle.std.specs.Prelude.{◌≡◌, ◌≤◌, false, ◌+◌, ◌*◌, ◌^◌, ◌||◌, ◌&&◌, Option, Some, None, nat_lt, suc, length, slice_get, if◌then◌else◌};
 ghost use Rattle.std.specs.Char.{digit_value};
 ghost use Rattle.fdt_source.specs.Characters.{is_space};
-ghost use Rattle.fdt_source.specs.Turns as turns;
+ghost use Rattle.fdt_source.specs.PrivateTurns as turns;
 
 use crate::characters::{is_in_node_name, is_in_property_name, is_in_string, is_spacing};
 use crate::state::{Action, Comment, Digits, Keyword, Kind, Next};

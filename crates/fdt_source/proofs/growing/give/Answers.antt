@@ -1,4 +1,4 @@
-use Rattle.std.proofs.Common.{◌≡◌, refl, length}
+use Rattle.std.proofs.Common.{◌≡◌, refl}
 use Rattle.fdt_tree.specs.Document.{place_of, with_property}
 use Rattle.fdt_read.proofs.Kept.{on_ok}
 use Rattle.fdt_source.proofs.Grown.{grown_give}

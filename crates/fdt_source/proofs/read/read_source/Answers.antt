@@ -1,9 +1,8 @@
-use Rattle.std.proofs.Common.{◌≡◌, ◌∙◌, refl, sym, subst, ℕ, ◌+◌, ◌<◌, Some, None, take, get_or, length, inr, arith, true, false}
+use Rattle.std.proofs.Common.{◌≡◌, ◌∙◌, refl, sym, subst, ℕ, ◌+◌, ◌<◌, Some, None, take, get_or, length, inr, arith}
 use Rattle.std.proofs.lemmas.List.{take_more}
-use Rattle.std.proofs.lemmas.Bool.{not-true, not-false}
 use Rattle.fdt_tree.specs.Document.{place_of}
-use Rattle.fdt_source.specs.Turns.{turn, depth_behind, is_done}
-use Rattle.fdt_source.specs.Readings.{IsRead, act, reached}
+use Rattle.fdt_source.specs.PrivateTurns.{turn}
+use Rattle.fdt_source.specs.PrivateReadings.{IsRead, act, reached}
 use Rattle.fdt_source.proofs.Running.{stand}
 use Rattle.fdt_source.proofs.Decided.{departs_at, departs_at_end, whole_reached, goes_on, found_at, nothing_else}
 use Rattle.fdt_source.proofs.read.read_source.Goals as goal

@@ -1,5 +1,5 @@
 use Rattle.std.proofs.Common.{◌≡◌, Some, take}
-use Rattle.fdt_source.specs.Readings.{Built, IsRead, reached}
+use Rattle.fdt_source.specs.PrivateReadings.{Built, IsRead, reached}
 use Rattle.fdt_source.proofs.Running.{stand}
 use Rattle.fdt_source.proofs.read.read_source.Given as goal
 

@@ -2,8 +2,8 @@ use Rattle.std.proofs.Common.{sym, subst, suc, [], ◌∷◌, ◌++◌, Some}
 use Rattle.fdt_read.specs.Tokens.{begin_node, end_node, property}
 use Rattle.fdt_read.proofs.Kept.{on_ok}
 use Rattle.fdt_source.specs.declared.state.Action.{Action}
-use Rattle.fdt_source.specs.Turns.{above, depth_behind}
-use Rattle.fdt_source.specs.Readings.{IsGrown, IsRead, act}
+use Rattle.fdt_source.specs.PrivateTurns.{above, depth_behind}
+use Rattle.fdt_source.specs.PrivateReadings.{IsGrown, IsRead, act}
 use Rattle.fdt_source.proofs.Taken.{with_growing, taken_give, taken_empty, taken_open, taken_close}
 use Rattle.fdt_source.proofs.reading.take.Goals as goal
 

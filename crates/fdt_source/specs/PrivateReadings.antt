@@ -1,5 +1,5 @@
 -- For proofs and private contracts alone: what is read, byte by byte.
-use Rattle.std.specs.Prelude.{◌≡◌, ℕ, zero, suc, ◌<◌, Bool, true, false, ◌==◌, ◌&&◌, List, [], ◌∷◌, ◌++◌, if◌then◌else◌, length, Option, Some, None, option_and_then}
+use Rattle.std.specs.Prelude.{◌≡◌, ℕ, suc, ◌<◌, ◌==◌, ◌&&◌, List, [], ◌∷◌, ◌++◌, if◌then◌else◌, length, Option, Some, option_and_then}
 use Rattle.std.specs.Int.{w32, to_be_bytes}
 use Rattle.fdt_tree.specs.Tree.{Bytes, Tree, Place, at}
 use Rattle.fdt_tree.specs.Document.{place_of, children_at}
@@ -14,7 +14,7 @@ use Rattle.fdt_source.specs.declared.state.Action.{Action}
 use Rattle.fdt_source.specs.declared.state.Action.TheVariants.{Pass, StartName, PushName, SetAddress, AddReserve, StartValue, PushByte, PushWord, Give, GiveEmpty, Open, Close}
 use Rattle.fdt_source.specs.declared.growing.Growing.{Growing}
 use Rattle.fdt_source.specs.declared.reading.Reading.{Reading}
-use Rattle.fdt_source.specs.Turns.{turn, depth_behind, is_done}
+use Rattle.fdt_source.specs.PrivateTurns.{turn, depth_behind}
 
 -- What was read: a name, a value, the address of a reservation, the reservations, and the tokens of the tree.
 pub record Built : Type 0 where

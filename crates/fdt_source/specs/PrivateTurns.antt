@@ -1,5 +1,5 @@
 -- For proofs and private contracts alone: how the reader goes on from byte to byte. A text departs from every source at the first byte where it cannot.
-use Rattle.std.specs.Prelude.{ℕ, zero, suc, ◌+◌, ◌*◌, ◌^◌, Bool, true, false, ◌==◌, ◌&&◌, ◌||◌, nat_lt, List, [], ◌∷◌, if◌then◌else◌, length, slice_get, Option, Some, None, option_map, codes}
+use Rattle.std.specs.Prelude.{ℕ, zero, suc, ◌+◌, ◌*◌, ◌^◌, Bool, true, false, ◌==◌, ◌&&◌, ◌||◌, nat_lt, if◌then◌else◌, slice_get, Option, Some, None, option_map, codes}
 use Rattle.std.specs.Char.{digit_value}
 use Rattle.fdt_tree.specs.Tree.{Bytes}
 use Rattle.fdt_source.specs.Characters.{is_property_byte, is_node_byte, is_string_byte, is_space}

@@ -5,7 +5,7 @@ use Rattle.run_steps.proofs.Due.{due_here, stopped_anyway, built_for}
 use Rattle.run_steps.proofs.ReadingSteps.{tree_file_step}
 use Rattle.fdt_source.specs.Job.{IsPrinting}
 use Rattle.fdt_source.proofs.Shown.{no_last_pairs}
-use Rattle.fdt_source.proofs.prepare.prepare.Goals as goal
+use Rattle.fdt_source.proofs.tree_printing.print_file.Goals as goal
 
 pub returns-in_err-tree-clause-stopped : goal.returns-in_err-tree-clause-stopped
 returns-in_err-tree-clause-stopped g c =
