@@ -20,6 +20,8 @@ pub(crate) enum Program {
     Build,
     /// `guest_load`.
     Load,
+    /// `fdt_overlay`.
+    Overlay,
 }
 
 /// A program, the words of its run, its name first, and what it meets outside. What of its outputs is shown beside
@@ -77,6 +79,13 @@ impl Case {
         self.add_word(alloc, "guest_load")
     }
 
+    /// The program is `fdt_overlay`, of no words yet.
+    pub(crate) fn choose_overlay(&mut self, alloc: Global) -> Result<(), AllocError> {
+        self.program = Program::Overlay;
+        self.words.clear();
+        self.add_word(alloc, "fdt_overlay")
+    }
+
     /// Adds a word behind the others.
     pub(crate) fn add_word(&mut self, alloc: Global, word: &str) -> Result<(), AllocError> {
         self.words.push(String::from_str(alloc, word)?)?;
@@ -106,6 +115,14 @@ impl Case {
                 &mut self.err,
             ),
             Program::Load => guest_load::run(
+                alloc,
+                &self.words,
+                &mut self.files,
+                &mut self.outs,
+                &mut self.out,
+                &mut self.err,
+            ),
+            Program::Overlay => fdt_overlay::run(
                 alloc,
                 &self.words,
                 &mut self.files,

@@ -1,6 +1,6 @@
 // Reading a case. Each line is a word of these and what belongs to it:
 //
-//     program NAME      the program is `guest_load`; without this line it is `dom0less`
+//     program NAME      the program is `guest_load` or `fdt_overlay`; without this line it is `dom0less`
 //     word TEXT         a further word of the run
 //     file NAME         a file is held under this name, whose bytes are those of the lines up to the next file
 //     from PATH         the bytes of this file
@@ -100,6 +100,7 @@ fn add_call(
     match kind {
         "program" => match value {
             "guest_load" => case.choose_load(alloc),
+            "fdt_overlay" => case.choose_overlay(alloc),
             _ => Ok(()),
         },
         "word" => case.add_word(alloc, value),
