@@ -66,7 +66,7 @@ fn file_is_read_as_the_image_that_it_was_written_from(rt: HostRuntime) -> Result
     assert_eq!(rt; file.len(), 16_440);
     let first = b"S2IMAGE1\0\0\0\0\0\0\0\0\x04\0\0\0\0\0\0\0\0\0\0\0\0\0\0\0";
     assert!(rt; file.as_slice().starts_with(first.as_slice()));
-    match read_image(rt.alloc(), &file) {
+    match read_image(rt.alloc(), file) {
         Ok(read) => {
             assert_eq!(rt; read.page_count(), 4);
             assert_eq!(rt; read.frame_at(3), 3);
@@ -82,9 +82,11 @@ fn file_is_read_as_the_image_that_it_was_written_from(rt: HostRuntime) -> Result
         Err(_) => return Err(Fail::from("the file is refused")),
     }
     let no_pages = b"S2IMAGE1\0\0\0\0\0\0\0\0\0\0\0\0\0\0\0\0";
-    let root = read_image(rt.alloc(), no_pages.as_slice()).err();
+    let no_pages = Vec::from_slice(rt.alloc(), no_pages.as_slice())?;
+    let root = read_image(rt.alloc(), no_pages).err();
     assert!(rt; root == Some(ImageFault::Root));
-    let magic = read_image(rt.alloc(), b"S2IMAGE1".as_slice()).err();
+    let magic_alone = Vec::from_slice(rt.alloc(), b"S2IMAGE1".as_slice())?;
+    let magic = read_image(rt.alloc(), magic_alone).err();
     assert!(rt; magic == Some(ImageFault::Magic));
     Ok(())
 }
