@@ -32,7 +32,7 @@ pub(crate) fn show_content(
     match kind {
         "text" => show_lines(rt, bytes),
         "tree" => show_tree(rt, bytes, value),
-        _ => match read_image(rt.alloc(), bytes) {
+        _ => match read_image(rt.alloc(), Vec::from_slice(rt.alloc(), bytes)?) {
             Ok(image) => show_image(rt, &image, kind, value),
             Err(_) => println!(rt; "no image"),
         },

@@ -37,7 +37,7 @@ fn show_output(
     if name.ends_with(b".source") {
         return show_text(rt, bytes);
     }
-    match read_image(rt.alloc(), bytes) {
+    match read_image(rt.alloc(), Vec::from_slice(rt.alloc(), bytes)?) {
         Ok(image) => show_image(rt, &image, addresses),
         Err(_) => Ok(()),
     }

@@ -87,25 +87,25 @@ fn audit_image<F: Files>(
         guest.ranges.as_slice(),
         unmapped,
         free,
-        &bytes,
+        bytes,
     )
 }
 
-/// The same of the bytes of the image's file.
+/// The same of the bytes of the image's file, which become those of the image.
 fn audit_file(
     alloc: Global,
     name: &str,
     ranges: &[MapRange],
     unmapped: &[FrameRange],
     free: &[FrameRange],
-    bytes: &[u8],
+    bytes: Vec<u8>,
 ) -> Result<List<FrameRange>, Stop>
     requires sorted { AreMapRanges ranges.now }
     requires merged { AreMerged ranges.now }
     requires unmapped { AreFrameRanges unmapped.now }
     requires free { AreFrameRanges free.now }
-    ensures sound { IfOk result (λ left. IsSound (is_outside unmapped.now) (is_outside free.now) ranges.now bytes.now × IsLeft free.now (tables_in (image_of bytes.now)) left) }
-    ensures stopped { IfErr result (λ stop. IsOwnDue (AfterImage name.now (is_outside unmapped.now) (is_outside free.now) ranges.now bytes.now nothing) stop) }
+    ensures sound { IfOk result (λ left. IsSound (is_outside unmapped.now) (is_outside free.now) ranges.now bytes.items × IsLeft free.now (tables_in (image_of bytes.items)) left) }
+    ensures stopped { IfErr result (λ stop. IsOwnDue (AfterImage name.now (is_outside unmapped.now) (is_outside free.now) ranges.now bytes.items nothing) stop) }
 {
     match read_image(alloc, bytes) {
         Ok(image) => audit_tables(alloc, name, ranges, unmapped, free, image),

@@ -1,5 +1,7 @@
 -- For private contracts and proofs: what a reader of tables keeps while it goes on.
-use Rattle.std.specs.Prelude.{◌≡◌, ◌≢◌, ℕ, ◌+◌, ◌/◌, ◌^◌, ◌<◌, ◌≤◌, false, if◌then◌else◌, List, [], ◌∷◌, Some, None, IsSome, Ok, Err}
+use Rattle.std.specs.Prelude.{◌≡◌, ◌≢◌, ℕ, ◌+◌, ◌/◌, ◌^◌, ◌<◌, ◌≤◌, false, List, [], ◌∷◌, Some, None, IsSome, Ok, Err}
+use Rattle.std.specs.BTreeSet.{BTreeSet, contains}
+use Rattle.std.specs.Ordering.{nat_cmp}
 use Rattle.dl_base.specs.Consecutive.{is_in}
 use Rattle.stage2_walk.specs.Pages.{Page, page_of}
 use Rattle.stage2_walk.specs.Walks.{walk}
@@ -21,6 +23,10 @@ TearsAt pages meetings tear = (reached : List ℕ) → meet_all pages reached me
 abbrev pub AreHeld : List Page → List ℕ → Type 0
 AreHeld pages [] = Unit {0}
 AreHeld pages (frame ∷ frames) = IsSome (page_of pages frame) × (is_in frames frame ≡ false) × AreHeld pages frames
+
+-- the set has the frames of the list, and no others
+abbrev pub HasFrames : BTreeSet ℕ → List ℕ → Type 0
+HasFrames known frames = (frame : ℕ) → contains nat_cmp known frame ≡ is_in frames frame
 
 -- no page from a first one up to a next one is mapped
 abbrev pub IsGap : PageMap → ℕ → ℕ → Type 0
