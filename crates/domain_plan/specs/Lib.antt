@@ -9,6 +9,7 @@ pub mod Plans
 pub mod PrivateGiving
 pub mod PrivateLaying
 pub mod PrivateStanding
+pub mod PrivateTakings
 pub mod Reasons
 pub mod Refusals
 pub mod Taken

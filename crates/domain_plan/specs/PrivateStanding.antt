@@ -120,9 +120,9 @@ entry_of owner described = record { guest = owner.guest; partial_read = owner.pa
 -- the state stands for these items, the last of which may belong to that guest
 pub record Stands (guest : Option ℕ) (before : List Passed) (state : State) : Type 0 where
   pub items : state.items.items ≡ map item_of before
-  pub claims : state.claims.items ≡ taken_from claims_taken 0 before
+  pub claims : state.claims ≡ taken_from claims_taken 0 before
   pub loads : state.loads.items ≡ flat_map (λ (passed : Passed). load_in (what_of passed)) before
-  pub pages : state.pages.items ≡ taken_from (pages_taken guest) 0 before
+  pub pages : state.pages ≡ taken_from (pages_taken guest) 0 before
   pub direct : state.direct ≡ is_direct before guest
   pub static_pages : state.static_pages ≡ pages_before before guest
   pub triples : (host size page : ℕ) → has_triple host size page state.triples.items ≡ is_repeated before guest host size page
@@ -168,9 +168,9 @@ in_guest (Some number) there otherwise = there
 -- the new state has one item more than the old, with what it takes
 pub record IsAdded (owner : Owner) (described : Described) (takes : Takes) (old new : State) : Type 0 where
   pub items : new.items.items ≡ old.items.items ++ described.item ∷ []
-  pub claims : new.claims.items ≡ old.claims.items ++ map (taken_at (length old.items.items)) takes.claims.items
+  pub claims : new.claims ≡ old.claims ++ map (taken_at (length old.items.items)) takes.claims.items
   pub loads : new.loads.items ≡ old.loads.items ++ load_in described.what
-  pub pages : new.pages.items ≡ old.pages.items ++ map (taken_at (length old.items.items)) (in_guest owner.guest takes.pages.items [])
+  pub pages : new.pages ≡ old.pages ++ map (taken_at (length old.items.items)) (in_guest owner.guest takes.pages.items [])
   pub direct : new.direct ≡ (old.direct || (is_some owner.guest && says_direct described.what))
   pub static_pages : new.static_pages ≡ cut (old.static_pages + in_guest owner.guest (static_pages described.what) 0)
   pub triples : (host size page : ℕ) → has_triple host size page new.triples.items ≡ (has_triple host size page old.triples.items || (is_some owner.guest && is_range host size page described.what))

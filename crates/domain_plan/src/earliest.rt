@@ -4,28 +4,16 @@ ghost use Rattle.frame_ranges.specs.Ranges.{have_common};
 ghost use Rattle.domain_plan.specs.Taken.{Passed, item_of};
 ghost use Rattle.domain_plan.specs.PrivateStanding.{Stands, claims_taken, pages_taken};
 
-use crate::state::{State, Taken};
+use crate::state::State;
+use crate::takings::Takings;
 use dl_base::{FrameRange, Item};
-use frame_ranges::meets_any;
-
-/// The place of the first item that takes something of these ranges.
-fn first_place(taken: &[Taken], ranges: &[FrameRange]) -> Option<usize>
-    ensures { result ≡ option_map (λ taken. taken.item) (find (λ taken. have_common (taken.range ∷ []) ranges.now) taken.now) }
-{
-    for one in taken {
-        if meets_any(one.range, ranges) {
-            return Some(one.item);
-        }
-    }
-    None
-}
 
 /// The first item that takes something of these ranges.
-fn first_item<'a>(items: &'a [Item], taken: &[Taken], ranges: &[FrameRange]) -> Option<&'a Item>
+fn first_item<'a>(items: &'a [Item], taken: &Takings, ranges: &[FrameRange]) -> Option<&'a Item>
     ensures { option_map (λ item. item.now) result ≡
         option_and_then (slice_get items.now) (option_map (λ taken. taken.item) (find (λ taken. have_common (taken.range ∷ []) ranges.now) taken.now)) }
 {
-    match first_place(taken, ranges) {
+    match taken.first_place(ranges) {
         None => None,
         Some(place) => items.get(place),
     }
@@ -37,7 +25,7 @@ impl State {
         ensures { (guest : Option ℕ) → (before : List Passed) → Stands guest before self.now →
             option_map (λ item. item.now) result ≡ option_map item_of (find (λ passed. have_common (claims_taken passed) ranges.now) before) }
     {
-        first_item(self.items.as_slice(), self.claims.as_slice(), ranges)
+        first_item(self.items.as_slice(), &self.claims, ranges)
     }
 
     /// The earliest item of the guest that fills a page of these ranges.
@@ -45,6 +33,6 @@ impl State {
         ensures { (guest : Option ℕ) → (before : List Passed) → Stands guest before self.now →
             option_map (λ item. item.now) result ≡ option_map item_of (find (λ passed. have_common (pages_taken guest passed) ranges.now) before) }
     {
-        first_item(self.items.as_slice(), self.pages.as_slice(), ranges)
+        first_item(self.items.as_slice(), &self.pages, ranges)
     }
 }

@@ -17,6 +17,7 @@ mod reasons;
 mod regions;
 mod state;
 mod takes;
+mod takings;
 
 pub use described::{Guest, PartialState};
 pub use planned::{GuestPlan, Plan, PlanFault};

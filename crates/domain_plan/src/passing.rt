@@ -13,6 +13,7 @@ use crate::planned::PlanFault;
 use crate::reasons::Takes;
 use crate::state::{Owner, Region, State, Taken, Taker, Triple};
 use crate::takes::has_triple;
+use crate::takings::Takings;
 use dl_base::{BaseSize, Bytes, Described, FrameRange, Item, What, Why};
 use frame_ranges::touched;
 use std::alloc::{AllocError, Global};
@@ -33,11 +34,11 @@ impl From<AllocError> for PlanFault {
 }
 
 /// Adds ranges that the item at a place takes.
-fn push_taken(taken: &mut Vec<Taken>, place: usize, ranges: &[FrameRange]) -> Result<(), AllocError>
-    ensures { OnOk result (taken.new.items ≡ taken.old.items ++ map (taken_at place) ranges.now) }
+fn push_taken(taken: &mut Takings, place: usize, ranges: &[FrameRange]) -> Result<(), AllocError>
+    ensures { OnOk result (taken.new ≡ taken.old ++ map (taken_at place) ranges.now) }
 {
     for range in ranges {
-        taken.push(Taken {
+        taken.add(Taken {
             range: *range,
             item: place,
         })?;

@@ -12,6 +12,7 @@ ghost use Rattle.domain_plan.specs.PrivateStanding.{Stands, claims_taken, is_gue
 
 use crate::reasons::{Takes, lie_in};
 use crate::state::{Owner, Region, State, Taken};
+use crate::takings::Takings;
 use dl_base::{FrameRange, Item, Why};
 use frame_ranges::meets_any;
 use std::alloc::{AllocError, Global};
@@ -100,7 +101,7 @@ fn first_other_place(
 /// The first item that claims a frame of these ranges, and is no region of this id.
 fn first_other_item<'a>(
     items: &'a [Item],
-    taken: &[Taken],
+    taken: &Takings,
     ranges: &[FrameRange],
     regions: &[Region],
     id: &[u8],
@@ -108,7 +109,10 @@ fn first_other_item<'a>(
     ensures { option_map (λ item. item.now) result ≡
         option_and_then (slice_get items.now) (option_map (λ taken. taken.item) (find (λ taken. not (is_region_at id.now taken.item regions.now) && have_common (taken.range ∷ []) ranges.now) taken.now)) }
 {
-    match first_other_place(taken, ranges, regions, id) {
+    if !taken.may_take(ranges) {
+        return None;
+    }
+    match first_other_place(taken.as_slice(), ranges, regions, id) {
         None => None,
         Some(place) => items.get(place),
     }
@@ -182,7 +186,7 @@ impl State {
     {
         first_other_item(
             self.items.as_slice(),
-            self.claims.as_slice(),
+            &self.claims,
             claims,
             self.regions.as_slice(),
             id,

@@ -1,0 +1,8 @@
+use Rattle.std.proofs.Common.{◌≡◌, ℕ, true, drop}
+use Rattle.frame_ranges.specs.Ranges.{holds}
+use Rattle.domain_plan.specs.PrivateTakings.{AreClear}
+use Rattle.domain_plan.proofs.takings.may_meet_any.Given as goal
+
+-- where the ranges from the index on are clear, all are
+abbrev pub invariant-loop-range : goal.invariant-loop-range
+invariant-loop-range l = AreClear l.ends (drop l.range-index l.ranges) → AreClear l.ends l.ranges
