@@ -22,6 +22,8 @@ pub(crate) enum Program {
     Load,
     /// `fdt_overlay`.
     Overlay,
+    /// `fdt_source`.
+    Source,
 }
 
 /// A program, the words of its run, its name first, and what it meets outside. What of its outputs is shown beside
@@ -72,18 +74,16 @@ impl Case {
         self.err.reserve(SAID)
     }
 
-    /// The program is `guest_load`, of no words yet.
-    pub(crate) fn choose_load(&mut self, alloc: Global) -> Result<(), AllocError> {
-        self.program = Program::Load;
+    /// The program is the one of this name, of no words yet.
+    pub(crate) fn choose(&mut self, alloc: Global, name: &str) -> Result<(), AllocError> {
+        self.program = match name {
+            "guest_load" => Program::Load,
+            "fdt_overlay" => Program::Overlay,
+            "fdt_source" => Program::Source,
+            _ => Program::Build,
+        };
         self.words.clear();
-        self.add_word(alloc, "guest_load")
-    }
-
-    /// The program is `fdt_overlay`, of no words yet.
-    pub(crate) fn choose_overlay(&mut self, alloc: Global) -> Result<(), AllocError> {
-        self.program = Program::Overlay;
-        self.words.clear();
-        self.add_word(alloc, "fdt_overlay")
+        self.add_word(alloc, name)
     }
 
     /// Adds a word behind the others.
@@ -123,6 +123,14 @@ impl Case {
                 &mut self.err,
             ),
             Program::Overlay => fdt_overlay::run(
+                alloc,
+                &self.words,
+                &mut self.files,
+                &mut self.outs,
+                &mut self.out,
+                &mut self.err,
+            ),
+            Program::Source => fdt_source::run(
                 alloc,
                 &self.words,
                 &mut self.files,

@@ -2,6 +2,7 @@
 // it:
 //
 //     text NAME                 its text
+//     bytes NAME                its bytes, two hexadecimal digits each
 //     tree NAME PATH            the listing of its tree from this node down
 //     frames NAME               the root frame of its image, and the frames of its pages, in order
 //     walk NAME ADDRESS         where a walk through its image ends, from this guest address below 2^40
@@ -31,12 +32,22 @@ pub(crate) fn show_content(
     }
     match kind {
         "text" => show_lines(rt, bytes),
+        "bytes" => show_bytes(rt, bytes),
         "tree" => show_tree(rt, bytes, value),
         _ => match read_image(rt.alloc(), Vec::from_slice(rt.alloc(), bytes)?) {
             Ok(image) => show_image(rt, &image, kind, value),
             Err(_) => println!(rt; "no image"),
         },
     }
+}
+
+/// Shows bytes.
+fn show_bytes(rt: &impl Print, bytes: &[u8]) -> io::Result<()> {
+    print!(rt; "  ")?;
+    for byte in bytes {
+        print!(rt; "{byte:02x}")?;
+    }
+    println!(rt; "")
 }
 
 /// Shows what is asked of an image.

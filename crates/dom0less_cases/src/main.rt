@@ -1,7 +1,7 @@
-//! Runs of `dom0less`, `guest_load` and `fdt_overlay` in memory, described as data: the file `cases` names them, one a
-//! line, and each is a file of its own, whose lines say the words, the files that are held and the calls that fail. What
-//! each run answers, says and writes is shown. The trees in the folder `trees` that have a source beside them are its
-//! canonical spelling.
+//! Runs of `dom0less`, `guest_load`, `fdt_overlay` and `fdt_source` in memory, described as data: the file `cases` names
+//! them, one a line, and each is a file of its own, whose lines say the words, the files that are held and the calls that
+//! fail. What each run answers, says and writes is shown. The trees in the folder `trees` that have a source beside them
+//! are its canonical spelling.
 #![tactic(auto)]
 
 mod audits;

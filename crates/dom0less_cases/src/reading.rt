@@ -1,6 +1,6 @@
 // Reading a case. Each line is a word of these and what belongs to it:
 //
-//     program NAME      the program is `guest_load` or `fdt_overlay`; without this line it is `dom0less`
+//     program NAME      the program is `guest_load`, `fdt_overlay` or `fdt_source`; without this line it is `dom0less`
 //     word TEXT         a further word of the run
 //     file NAME         a file is held under this name, whose bytes are those of the lines up to the next file
 //     from PATH         the bytes of this file
@@ -98,11 +98,7 @@ fn add_call(
     value: &str,
 ) -> Result<(), AllocError> {
     match kind {
-        "program" => match value {
-            "guest_load" => case.choose_load(alloc),
-            "fdt_overlay" => case.choose_overlay(alloc),
-            _ => Ok(()),
-        },
+        "program" => case.choose(alloc, value),
         "word" => case.add_word(alloc, value),
         "fail" => match value.split_once(' ') {
             Some((place, call)) => case.fail_at(place, number(call) as u64),
@@ -128,7 +124,7 @@ fn add_call(
             }
             Ok(())
         }
-        "text" | "tree" | "frames" | "walk" | "entry" => {
+        "text" | "bytes" | "tree" | "frames" | "walk" | "entry" => {
             case.shown.push(String::from_str(alloc, line)?)?;
             Ok(())
         }
