@@ -1,5 +1,4 @@
-use Rattle.std.proofs.Common.{◌≡◌, ℕ, true, drop}
-use Rattle.frame_ranges.specs.Ranges.{holds}
+use Rattle.std.proofs.Common.{drop}
 use Rattle.domain_plan.specs.PrivateTakings.{AreClear}
 use Rattle.domain_plan.proofs.takings.may_meet_any.Given as goal
 

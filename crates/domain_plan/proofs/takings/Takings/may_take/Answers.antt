@@ -1,5 +1,4 @@
-use Rattle.std.proofs.Common.{◌≡◌, true, List, map, sym, ap, subst}
-use Rattle.std.specs.Prelude.{option_map}
+use Rattle.std.proofs.Common.{◌≡◌, true, List, map, sym, subst}
 use Rattle.frame_ranges.specs.Ranges.{holds}
 use Rattle.domain_plan.specs.declared.state.Taken.{Taken}
 use Rattle.domain_plan.proofs.TakingsLemmas.{none_takes}
