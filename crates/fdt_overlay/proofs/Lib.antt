@@ -1,5 +1,6 @@
 pub mod AppliedLemmas
 pub mod Avoided
+pub mod ChildWalks
 pub mod CopyLemmas
 pub mod DepthLemmas
 pub mod Exact

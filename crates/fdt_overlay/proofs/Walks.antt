@@ -1,11 +1,8 @@
 -- From node to node: the first child and the next sibling are no root, and have greater numbers.
-use Rattle.std.proofs.Common.{◌≡◌, ◌≢◌, ◌∙◌, ap, sym, subst, refl, ℕ, ◌+◌, ◌-◌, ◌<◌, ◌≤◌, length, drop, List, [], ◌∷◌, ◌++◌, true, false, cond, Option, Some, None, option_map, slice_index_or, arith}
-use Rattle.std.specs.Prelude.{option_and_then, IfSome, bytes_eq}
-use Rattle.std.proofs.lemmas.List.{drop_all}
-use Rattle.fdt_tree.specs.Tree.{Bytes, Tree, Place, at}
-use Rattle.fdt_tree.specs.Document.{Document, place_of, name_of, next_place, if_there}
-use Rattle.fdt_nodes.proofs.ChildLists.{first_of}
-use Rattle.fdt_nodes.proofs.Searches.{item_first}
+use Rattle.std.proofs.Common.{◌≡◌, ◌≢◌, ◌∙◌, sym, subst, refl, ℕ, ◌-◌, ◌<◌, [], ◌∷◌, ◌++◌, Option, Some, None, option_map, arith}
+use Rattle.std.specs.Prelude.{option_and_then, IfSome}
+use Rattle.fdt_tree.specs.Tree.{Tree, Place, at}
+use Rattle.fdt_tree.specs.Document.{Document, place_of, next_place, if_there}
 
 child-below : (d : Document) (q : Place) (o : Option Tree) (p : Place) → q ≢ [] → Some p ≡ option_map (λ _. q) o → p ≢ []
 child-below d q None p ne is = absurd (cc)
@@ -53,21 +50,3 @@ held P (Some n) child is h = let same : n ≡ child = cc in subst P same h
 abbrev pub numbers_after : ℕ → Option ℕ → ℕ
 numbers_after count None = 0
 numbers_after count (Some child) = count - child
-
--- the first child of a name is among those from an index on
-abbrev pub IsAmong : Document → List ℕ → ℕ → Bytes → Type 0
-IsAmong d numbers i name = first_of d numbers name ≡ first_of d (drop i numbers) name
-
--- it is the child at the index
-pub among-here : (d : Document) (numbers : List ℕ) (i child : ℕ) (name : Bytes) → IsAmong d numbers i name → i < length numbers → child ≡ slice_index_or numbers i child → bytes_eq (name_of d child) name ≡ true → first_of d numbers name ≡ Some child
-among-here d numbers i child name among there is named =
-    among ∙ (ap (λ rest. first_of d rest name) (item_first numbers i child there is) ∙ ap (λ b. cond b (Some child) (first_of d (drop (i + 1) numbers) name)) named)
-
--- it is none of those up to the index
-pub among-later : (d : Document) (numbers : List ℕ) (i child : ℕ) (name : Bytes) → IsAmong d numbers i name → i < length numbers → child ≡ slice_index_or numbers i child → bytes_eq (name_of d child) name ≡ false → IsAmong d numbers (i + 1) name
-among-later d numbers i child name among there is named =
-    among ∙ (ap (λ rest. first_of d rest name) (item_first numbers i child there is) ∙ ap (λ b. cond b (Some child) (first_of d (drop (i + 1) numbers) name)) named)
-
--- there is none
-pub among-none : (d : Document) (numbers : List ℕ) (i : ℕ) (name : Bytes) → IsAmong d numbers i name → length numbers ≤ i → first_of d numbers name ≡ None
-among-none d numbers i name among end = among ∙ ap (λ rest. first_of d rest name) (drop_all i numbers end)

@@ -46,7 +46,7 @@ fn merge_fragment(
     if !fits(overlay, content, DEPTH_LIMIT - depth(tree, target)) {
         return Err(OverlayFault::Deep(own_name(alloc, overlay, fragment)?));
     }
-    merge_node(alloc, tree, target, overlay, content)?;
+    merge_node(tree, target, overlay, content)?;
     Ok(())
 }
 
@@ -62,7 +62,7 @@ fn merge_child(
     ensures refused { IfErr result (λ fault. (fault ≡ OverlayFault.Memory) ⊎ (each with_fragment tree.old.tree (fragments (one_tree (name_of overlay.now child) (properties_of overlay.now child) (children_of overlay.now child))) ≡ Err fault)) }
 {
     overlay.numbering();
-    match child_named(alloc, overlay, child, b"__overlay__")? {
+    match child_named(overlay, child, b"__overlay__") {
         None => Ok(()),
         Some(content) => merge_fragment(alloc, tree, overlay, child, content),
     }

@@ -6,44 +6,34 @@ ghost use Rattle.fdt_nodes.specs.ChildMaps.{child_place};
 ghost use Rattle.fdt_overlay.specs.Merge.{set_all};
 ghost use Rattle.fdt_overlay.specs.PrivateGrown.{IsOpened, Changes, merging, merging_all};
 
-use fdt_nodes::children;
 use fdt_tree::{NodeId, Tree};
-use std::alloc::{AllocError, Global};
+use std::alloc::AllocError;
 use tree_parts::add_empty;
 
 /// The first child of a node that has this name.
-pub(crate) fn child_named(
-    alloc: Global,
-    tree: &Tree,
-    node: NodeId,
-    name: &[u8],
-) -> Result<Option<NodeId>, AllocError>
+pub(crate) fn child_named(tree: &Tree, node: NodeId, name: &[u8]) -> Option<NodeId>
     requires { node < length tree.now.places }
-    ensures live { IfOk result (λ found. IfSome found (λ child. child < length tree.now.places)) }
-    ensures place { IfOk result (λ found. option_map (λ child. place_of tree.now child) found ≡ child_place tree.now node name.now) }
+    ensures live { IfSome result (λ child. child < length tree.now.places) }
+    ensures place { option_map (λ child. place_of tree.now child) result ≡ child_place tree.now node name.now }
 {
     tree.numbering();
-    let below = children(alloc, tree, node)?;
-    for child in below.as_slice() {
-        if tree.name(*child) == name {
-            return Ok(Some(*child));
+    let mut next = tree.first_child(node);
+    while let Some(child) = next {
+        if tree.name(child) == name {
+            return Some(child);
         }
+        next = tree.next_sibling(child);
     }
-    Ok(None)
+    None
 }
 
 /// The first child of a node that has this name, which is added last where there is none.
-fn open_child(
-    alloc: Global,
-    tree: &mut Tree,
-    node: NodeId,
-    name: &[u8],
-) -> Result<NodeId, AllocError>
+fn open_child(tree: &mut Tree, node: NodeId, name: &[u8]) -> Result<NodeId, AllocError>
     requires live { node < length tree.old.places }
     requires node_name { IsTrue (is_node_name name.now) }
     ensures { IfOk result (IsOpened tree.old tree.new node name.now) }
 {
-    match child_named(alloc, tree, node, name)? {
+    match child_named(tree, node, name) {
         Some(child) => Ok(child),
         None => add_empty(tree, node, name),
     }
@@ -70,7 +60,6 @@ fn set_properties(
 
 /// Merges what is below a node of an overlay into a node, each child into the first of its name.
 fn merge_children(
-    alloc: Global,
     tree: &mut Tree,
     target: NodeId,
     overlay: &Tree,
@@ -85,9 +74,9 @@ fn merge_children(
     let mut next = overlay.first_child(node);
     while let Some(child) = next {
         tree.numbering();
-        let into = open_child(alloc, tree, target, overlay.name(child))?;
+        let into = open_child(tree, target, overlay.name(child))?;
         set_properties(tree, into, overlay, child)?;
-        merge_children(alloc, tree, into, overlay, child)?;
+        merge_children(tree, into, overlay, child)?;
         next = overlay.next_sibling(child);
     }
     Ok(())
@@ -95,7 +84,6 @@ fn merge_children(
 
 /// Merges a node of an overlay into a node, with all below it.
 pub(crate) fn merge_node(
-    alloc: Global,
     tree: &mut Tree,
     target: NodeId,
     overlay: &Tree,
@@ -106,5 +94,5 @@ pub(crate) fn merge_node(
     ensures { OnOk result (Changes tree.old tree.new target (merging_all (properties_of overlay.now node) (children_of overlay.now node))) }
 {
     set_properties(tree, target, overlay, node)?;
-    merge_children(alloc, tree, target, overlay, node)
+    merge_children(tree, target, overlay, node)
 }

@@ -1,22 +1,28 @@
-use Rattle.std.proofs.Common.{◌∙◌, ap, sym, subst, arith}
-use Rattle.std.specs.Prelude.{option_map}
-use Rattle.fdt_tree.specs.Document.{place_of}
-use Rattle.fdt_nodes.specs.Nodes.{children}
-use Rattle.fdt_nodes.specs.Held.{node_of, Are}
-use Rattle.fdt_nodes.proofs.ChildLists.{first_child_place}
-use Rattle.fdt_overlay.proofs.Walks.{among-here, among-none}
+use Rattle.std.proofs.Common.{◌≡◌, true, false, sym, ap, ◌∙◌}
+use Rattle.std.specs.Prelude.{bytes_eq}
+use Rattle.fdt_tree.specs.Document.{name_of}
+use Rattle.fdt_tree.proofs.Siblings.{standing, starts, goes_on}
+use Rattle.fdt_overlay.proofs.ChildWalks.{child-found, no-child}
 use Rattle.fdt_overlay.proofs.merge.child_named.Goals as goal
+
+pub loop-next-init : goal.loop-next-init
+loop-next-init c =
+    let u = standing c.args.tree.now c.args.node c.numbering.ensures c.requires in
+    record { live = c.first_child-next.ensures.live; comes = starts _ _ _ u.0 u.1 c.first_child-next.result c.first_child-next.ensures.place }
+
+pub loop-next-preserved : goal.loop-next-preserved
+loop-next-preserved c =
+    let u = standing c.args.tree.now c.args.node c.numbering.ensures c.requires in
+    let other : bytes_eq (name_of c.args.tree.now c.in-Some.child) c.args.name.now ≡ false = ap (λ z. bytes_eq z c.args.name.now) (sym c.name.ensures) ∙ (sym c.eq.ensures ∙ c.if-eq.false) in
+    record { live = c.next_sibling-next.ensures.live; comes = goes_on _ _ _ u.0 u.1 c.loop-next.next c.next_sibling-next.result c.in-Some.child c.in-Some.is c.loop-next.invariant.comes c.next_sibling-next.ensures.place other }
 
 pub returns-then-eq-clause-place : goal.returns-then-eq-clause-place
 returns-then-eq-clause-place c =
-    let d = c.args.tree.now in
-    let numbers = c.as_slice-child-items.result.now in
-    let are : Are d (children (node_of d c.args.node)) numbers = subst (Are d (children (node_of d c.args.node))) (sym c.as_slice-child-items.ensures) c.in_ok-below.ensures in
-    ap (option_map (place_of d)) (sym (among-here d numbers c.loop-child.child-index c.child-item.result c.args.name.now c.loop-child.invariant c.loop-child-test.true c.child-item.is (cc (c.name.ensures, c.eq.ensures, c.if-eq.true)))) ∙ first_child_place d c.args.node numbers c.args.name.now c.numbering.ensures c.requires are
+    let u = standing c.args.tree.now c.args.node c.numbering.ensures c.requires in
+    let same : bytes_eq (name_of c.args.tree.now c.in-Some.child) c.args.name.now ≡ true = ap (λ z. bytes_eq z c.args.name.now) (sym c.name.ensures) ∙ (sym c.eq.ensures ∙ c.if-eq.true) in
+    child-found _ _ _ u.0 u.1 c.loop-next.next c.in-Some.child c.in-Some.is c.loop-next.invariant.comes same
 
 pub returns-clause-place : goal.returns-clause-place
 returns-clause-place c =
-    let d = c.args.tree.now in
-    let numbers = c.as_slice-child-items.result.now in
-    let are : Are d (children (node_of d c.args.node)) numbers = subst (Are d (children (node_of d c.args.node))) (sym c.as_slice-child-items.ensures) c.in_ok-below.ensures in
-    ap (option_map (place_of d)) (sym (among-none d numbers c.loop-child.child-index c.args.name.now c.loop-child.invariant (omega arith))) ∙ first_child_place d c.args.node numbers c.args.name.now c.numbering.ensures c.requires are
+    let u = standing c.args.tree.now c.args.node c.numbering.ensures c.requires in
+    no-child _ _ _ u.0 u.1 c.loop-next.next c.in_default.is c.loop-next.invariant.comes
