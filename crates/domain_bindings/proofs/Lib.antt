@@ -7,3 +7,4 @@ pub mod Sound
 pub mod EachItem
 pub mod Assured
 pub mod FirstLemmas
+pub mod HostDeviceLemmas
