@@ -8,3 +8,4 @@ pub mod EachItem
 pub mod Assured
 pub mod FirstLemmas
 pub mod HostDeviceLemmas
+pub mod DeviceInstances

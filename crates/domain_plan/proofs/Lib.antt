@@ -26,3 +26,4 @@ pub mod ReasonLemmas
 pub mod RegionLemmas
 pub mod SpiLemmas
 pub mod StandingLemmas
+pub mod LayoutLemmas

@@ -12,3 +12,4 @@ pub mod PrivateStanding
 pub mod Reasons
 pub mod Refusals
 pub mod Taken
+pub mod Layouts
