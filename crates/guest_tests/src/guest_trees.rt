@@ -1,7 +1,7 @@
 // The tree of a guest, with ample memory.
 ghost use Rattle.guest_fdt.specs.Bounds.{IsBounded};
 
-use dl_base::{Bytes, List};
+use dl_base::{Bytes, List, usual_layout};
 use domain_plan::GuestPlan;
 use fdt_nodes::{found, is_compatible};
 use guest_fdt::build_tree;
@@ -18,6 +18,7 @@ fn plain_guest(alloc: Global) -> GuestPlan
         cpus: 1,
         console: false,
         gic: 65_000,
+        layout: usual_layout(),
         bootargs: None,
         memories: List::new(alloc),
         ranges: List::new(alloc),

@@ -16,6 +16,8 @@ fn memory_that_nothing_claims_is_left(rt: HostRuntime) -> Result<(), Fail> {
         modules: List::new(rt.alloc()),
         ram,
         gic: None,
+        areas: None,
+        console: None,
     };
     let Ok(plan) = plan(
         rt.alloc(),
@@ -47,6 +49,8 @@ fn item_with_a_reason_of_its_own_is_named(rt: HostRuntime) -> Result<(), Fail> {
         modules: List::new(rt.alloc()),
         ram: List::new(rt.alloc()),
         gic: None,
+        areas: None,
+        console: None,
     };
     match plan(
         rt.alloc(),
