@@ -2,7 +2,6 @@
 use Rattle.std.specs.Prelude.{ℕ, ◌+◌, List, [], ◌∷◌, length, map, Option}
 use Rattle.std.specs.List.{zip, flat_map}
 use Rattle.dl_base.specs.Outside.{File}
-use Rattle.dl_base.specs.Layouts.{usual_layout}
 use Rattle.fdt_tree.specs.Tree.{Tree}
 use Rattle.domain_plan.specs.declared.planned.GuestPlan.{GuestPlan}
 use Rattle.fdt_write.specs.Flattened.{flattened}
@@ -25,7 +24,7 @@ images_of plan = least_files plan.guests plan.free
 
 -- the tree of a guest with its partial tree, where that was read: without reservations, and processor 0 boots
 abbrev pub tree_output : GuestPlan → Option Tree → File
-tree_output guest partial = (tree_name guest.number, flattened [] 0 (guest_tree usual_layout guest partial))
+tree_output guest partial = (tree_name guest.number, flattened [] 0 (guest_tree guest partial))
 
 -- those of guests, the first of which has this number
 abbrev pub tree_outputs : List (Option Tree) → ℕ → List GuestPlan → List File

@@ -1,7 +1,6 @@
 //! The trees of guests are written.
 ghost use Rattle.std.specs.Prelude.{◌≡◌, ◌≤◌, All, IfErr, IfOk, None, OnOk, length, []};
 ghost use Rattle.std.specs.Option.{option_copied};
-ghost use Rattle.dl_base.specs.Layouts.{usual_layout};
 ghost use Rattle.fdt_write.specs.Flattened.{flattened, length_limit};
 ghost use Rattle.fdt_read.specs.Spells.{Spells};
 ghost use Rattle.guest_fdt.specs.Bounds.{IsBounded};
@@ -90,7 +89,7 @@ fn build_guest(
     number: usize,
 ) -> Result<Tree, AllocError>
     requires { IsBounded guest.now }
-    ensures { IfOk result (λ tree. tree.tree ≡ guest_tree usual_layout guest.now (partial_at (trees_in partials.now) number)) }
+    ensures { IfOk result (λ tree. tree.tree ≡ guest_tree guest.now (partial_at (trees_in partials.now) number)) }
 {
     match partials.get(number) {
         Some(Some(partial)) => build_tree(alloc, guest, Some(partial)),

@@ -7,3 +7,5 @@ pub mod Sound
 pub mod EachItem
 pub mod Assured
 pub mod FirstLemmas
+pub mod HostDeviceLemmas
+pub mod DeviceInstances

@@ -11,3 +11,4 @@ pub mod Ram
 pub mod Reasons
 pub mod Results
 pub mod Statics
+pub mod HostDevices

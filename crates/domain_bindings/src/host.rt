@@ -3,10 +3,12 @@ ghost use Rattle.std.specs.Prelude.{◌≡◌, ◌<◌, ◌≤◌, ◌++◌, ◌
 ghost use Rattle.fdt_nodes.specs.Held.{node_of, Are};
 ghost use Rattle.fdt_nodes.specs.Controllers.{gic_of};
 ghost use Rattle.domain_bindings.specs.Hosts.{dom0_items, have_one_phandle, host_item, host_items, host_reason, items_behind, memory_nodes, ram_regions};
+ghost use Rattle.domain_bindings.specs.HostDevices.{areas_of, console_of, HasUsableDevices};
 ghost use Rattle.domain_bindings.specs.Ram.{IsRam};
 ghost use Rattle.dl_base.specs.Sound.{AreSound};
 ghost use Rattle.frame_alloc.specs.Frames.{AreFrameRanges};
 
+use crate::host_devices::{areas_of, console_of};
 use crate::memory::{append_memory, append_reserved, append_reserves};
 use crate::modules::host_modules;
 use crate::ram::ram_of;
@@ -17,13 +19,17 @@ use fdt_tree::{NodeId, PhandleFault, Reserve, Tree, phandles};
 use std::alloc::{AllocError, Global};
 
 /// What a tree describes of the host: its memory and what is reserved, the modules of dom0, its memory as sorted ranges
-/// that are apart and do not touch, and its interrupt controller.
+/// that are apart and do not touch, its interrupt controller, and where this and its console stand.
 #[derive(Debug, Drop)]
 pub struct Host {
     pub items: List<Described>,
     pub modules: List<Described>,
     pub ram: List<FrameRange>,
     pub gic: Option<NodeId>,
+    /// The distributor and the redistributors of the interrupt controller: the address and the size of each, in bytes.
+    pub areas: Option<((u64, u64), (u64, u64))>,
+    /// The address of the console's registers, in bytes.
+    pub console: Option<u64>,
 }
 
 /// Whether two nodes have one phandle.
@@ -110,6 +116,9 @@ pub fn read_host(alloc: Global, tree: &Tree, reserves: &[Reserve]) -> Result<Hos
     ensures apart { IfOk result (λ host. AreFrameRanges host.ram) }
     ensures gic { IfOk result (λ host. option_map (λ node. node_of tree.now node) host.gic ≡ gic_of tree.now.tree) }
     ensures live { IfOk result (λ host. IfSome host.gic (λ node. node < length tree.now.places)) }
+    ensures areas { IfOk result (λ host. host.areas ≡ areas_of tree.now.tree) }
+    ensures console { IfOk result (λ host. host.console ≡ console_of tree.now.tree) }
+    ensures usable { IfOk result HasUsableDevices }
 {
     let memory = siblings_with(alloc, tree, tree.root(), Role::Memory)?;
     let mut items = List::new(alloc);
@@ -128,10 +137,14 @@ pub fn read_host(alloc: Global, tree: &Tree, reserves: &[Reserve]) -> Result<Hos
     let ram = ram_of(alloc, regions.as_slice())?;
     let modules = dom0_items(alloc, tree)?;
     let gic = gic(alloc, tree)?;
+    let areas = areas_of(alloc, tree, &gic)?;
+    let console = console_of(alloc, tree)?;
     Ok(Host {
         items,
         modules,
         ram,
         gic,
+        areas,
+        console,
     })
 }

@@ -4,6 +4,7 @@
 mod domain;
 mod heads;
 mod host;
+mod host_devices;
 mod memory;
 mod modules;
 mod ram;

@@ -102,24 +102,24 @@ not_two one other p q apart mine theirs same = by_guest p.entry.guest refl
 
 -- the parts of an outcome without a refusal
 pub outcome_tells : (host : Host) (loads : List Loaded) (guests : List Guest) (all : Heaps) → outcome host loads guests ≡ Ok all →
-    (first_refused host.ram [] (joined host loads guests) ≡ None) × (heaps guests (free_frames host.ram (passed_of host loads guests)) ≡ Ok all)
+    (first_refused host [] (joined host loads guests) ≡ None) × (heaps guests (free_frames host.ram (passed_of host loads guests)) ≡ Ok all)
 unfolding outcome
-outcome_tells host loads guests all is = by_refused (first_refused host.ram [] (joined host loads guests)) refl is
+outcome_tells host loads guests all is = by_refused (first_refused host [] (joined host loads guests)) refl is
   where
-    by_refused : (o : Option Refusal) → first_refused host.ram [] (joined host loads guests) ≡ o → unless_refused o (heaps guests (free_frames host.ram (passed_of host loads guests))) ≡ Ok all →
-        (first_refused host.ram [] (joined host loads guests) ≡ None) × (heaps guests (free_frames host.ram (passed_of host loads guests)) ≡ Ok all)
+    by_refused : (o : Option Refusal) → first_refused host [] (joined host loads guests) ≡ o → unless_refused o (heaps guests (free_frames host.ram (passed_of host loads guests))) ≡ Ok all →
+        (first_refused host [] (joined host loads guests) ≡ None) × (heaps guests (free_frames host.ram (passed_of host loads guests)) ≡ Ok all)
     by_refused None e told = (e, told)
     by_refused (Some refusal) e told = absurd cc
 
 -- two items of two guests that map one frame are one shared region
-items_meet : (ram : List FrameRange) (entries : List Entry) → first_refused ram [] entries ≡ None → AreSound entries → (one other page other_page : ℕ) (target other_target : Target) → (one ≡ other → ⊥) →
+items_meet : (host : Host) (entries : List Entry) → first_refused host [] entries ≡ None → AreSound entries → (one other page other_page : ℕ) (target other_target : Target) → (one ≡ other → ⊥) →
     IsMappedByItem (all_passed [] entries) one page target → IsMappedByItem (all_passed [] entries) other other_page other_target → target.frame ≡ other_target.frame →
     MeetWhereShared (all_passed [] entries) one other target other_target
-items_meet ram entries none sound one other page other_page target other_target apart mine theirs same =
-    let here = all_clear ram [] entries none sound mine.place mine.mine (omega arith) mine.at in
-    let there = all_clear ram [] entries none sound theirs.place theirs.mine (omega arith) theirs.at in
-    let a = item_tells ram (all_passed [] entries) mine.place mine.mine here.0 page target here.1 mine.mapped in
-    let b = item_tells ram (all_passed [] entries) theirs.place theirs.mine there.0 other_page other_target there.1 theirs.mapped in
+items_meet host entries none sound one other page other_page target other_target apart mine theirs same =
+    let here = all_clear host [] entries none sound mine.place mine.mine (omega arith) mine.at in
+    let there = all_clear host [] entries none sound theirs.place theirs.mine (omega arith) theirs.at in
+    let a = item_tells host (all_passed [] entries) mine.place mine.mine here.0 page target here.1 mine.mapped in
+    let b = item_tells host (all_passed [] entries) theirs.place theirs.mine there.0 other_page other_target there.1 theirs.mapped in
     let their_frame : holds theirs.mine.claims target.frame ≡ true = ap (holds theirs.mine.claims) same ∙ b.claimed in
     by_order (order mine.place theirs.place) here.0 here.1 there.0 there.1 a b their_frame
   where
@@ -140,62 +140,62 @@ items_meet ram entries none sound one other page other_page target other_target 
         all_three : (x y z : Bool) → x ≡ true → y ≡ true → z ≡ true → (x && y && z) ≡ true
         all_three x y z h k l = rw (h, k, l) refl
 
-    by_order : (mine.place < theirs.place) ⊎ (theirs.place < mine.place) ⊎ (mine.place ≡ theirs.place) → (front : List Passed) → IsClear ram (all_passed [] entries) mine.place mine.mine front →
-        (other_front : List Passed) → IsClear ram (all_passed [] entries) theirs.place theirs.mine other_front → IsMapped mine.mine page target → IsMapped theirs.mine other_page other_target → holds theirs.mine.claims target.frame ≡ true →
+    by_order : (mine.place < theirs.place) ⊎ (theirs.place < mine.place) ⊎ (mine.place ≡ theirs.place) → (front : List Passed) → IsClear host (all_passed [] entries) mine.place mine.mine front →
+        (other_front : List Passed) → IsClear host (all_passed [] entries) theirs.place theirs.mine other_front → IsMapped mine.mine page target → IsMapped theirs.mine other_page other_target → holds theirs.mine.claims target.frame ≡ true →
         MeetWhereShared (all_passed [] entries) one other target other_target
     by_order (inl low) front clear other_front other_clear a b f =
-        shared (region_turned (what_of theirs.mine) (what_of mine.mine) (one_region ram (all_passed [] entries) mine.place theirs.place mine.mine theirs.mine other_front target.frame low mine.at other_clear b.mapping a.claimed f)) a b f
+        shared (region_turned (what_of theirs.mine) (what_of mine.mine) (one_region host (all_passed [] entries) mine.place theirs.place mine.mine theirs.mine other_front target.frame low mine.at other_clear b.mapping a.claimed f)) a b f
     by_order (inr (inl high)) front clear other_front other_clear a b f =
-        shared (one_region ram (all_passed [] entries) theirs.place mine.place theirs.mine mine.mine front target.frame high theirs.at clear a.mapping f a.claimed) a b f
+        shared (one_region host (all_passed [] entries) theirs.place mine.place theirs.mine mine.mine front target.frame high theirs.at clear a.mapping f a.claimed) a b f
     by_order (inr (inr at)) front clear other_front other_clear a b f =
         absurd (not_two one other mine.mine theirs.mine apart mine.belongs theirs.belongs (same_Some mine.mine theirs.mine (sym mine.at ∙ ap (slice_get (all_passed [] entries)) at ∙ theirs.at)))
 
 -- a frame of the maps of two guests is shared in both
-pub guests_meet : (ram : List FrameRange) (entries : List Entry) (guests : List Guest) (all : Heaps) → first_refused ram [] entries ≡ None → AreSound entries → heaps guests (free_frames ram (all_passed [] entries)) ≡ Ok all →
+pub guests_meet : (host : Host) (entries : List Entry) (guests : List Guest) (all : Heaps) → first_refused host [] entries ≡ None → AreSound entries → heaps guests (free_frames host.ram (all_passed [] entries)) ≡ Ok all →
     (one other page other_page : ℕ) (drawn other_drawn : List FrameRange) (target other_target : Target) → (one ≡ other → ⊥) → slice_get all.drawn one ≡ Some drawn → slice_get all.drawn other ≡ Some other_drawn →
     target_of (guest_ranges (all_passed [] entries) one drawn) page ≡ Some target → target_of (guest_ranges (all_passed [] entries) other other_drawn) other_page ≡ Some other_target →
     target.frame ≡ other_target.frame → MeetWhereShared (all_passed [] entries) one other target other_target
-guests_meet ram entries guests all none sound drew one other page other_page drawn other_drawn target other_target apart at other_at mapped other_mapped same =
-    let draws = heaps_tell guests (free_frames ram (all_passed [] entries)) all drew in
+guests_meet host entries guests all none sound drew one other page other_page drawn other_drawn target other_target apart at other_at mapped other_mapped same =
+    let draws = heaps_tell guests (free_frames host.ram (all_passed [] entries)) all drew in
     by_part draws (guest_tells (all_passed [] entries) one drawn page target mapped) (guest_tells (all_passed [] entries) other other_drawn other_page other_target other_mapped)
   where
     goal : Type 0
     goal = MeetWhereShared (all_passed [] entries) one other target other_target
 
-    not_claimed : (frame : ℕ) → is_in (free_frames ram (all_passed [] entries)) frame ≡ true → (number page : ℕ) (t : Target) → t.frame ≡ frame → IsMappedByItem (all_passed [] entries) number page t → ⊥
+    not_claimed : (frame : ℕ) → is_in (free_frames host.ram (all_passed [] entries)) frame ≡ true → (number page : ℕ) (t : Target) → t.frame ≡ frame → IsMappedByItem (all_passed [] entries) number page t → ⊥
     not_claimed frame free number page t at_frame item =
-        let clear = all_clear ram [] entries none sound item.place item.mine (omega arith) item.at in
-        let m = item_tells ram (all_passed [] entries) item.place item.mine clear.0 page t clear.1 item.mapped in
-        free_unclaimed ram (all_passed [] entries) frame item.place item.mine free item.at (ap (holds item.mine.claims) (sym at_frame) ∙ m.claimed)
+        let clear = all_clear host [] entries none sound item.place item.mine (omega arith) item.at in
+        let m = item_tells host (all_passed [] entries) item.place item.mine clear.0 page t clear.1 item.mapped in
+        free_unclaimed host.ram (all_passed [] entries) frame item.place item.mine free item.at (ap (holds item.mine.claims) (sym at_frame) ∙ m.claimed)
 
     order : (j k : ℕ) → (j ≡ k → ⊥) → (j < k) ⊎ (k < j)
     order j k ne = grind arith
 
-    both_drawn : AreDraws (free_frames ram (all_passed [] entries)) all → (one < other) ⊎ (other < one) → holds drawn target.frame ≡ true → holds other_drawn other_target.frame ≡ true → ⊥
+    both_drawn : AreDraws (free_frames host.ram (all_passed [] entries)) all → (one < other) ⊎ (other < one) → holds drawn target.frame ≡ true → holds other_drawn other_target.frame ≡ true → ⊥
     both_drawn draws (inl low) h k = draws.apart one other target.frame drawn other_drawn low at other_at h (ap (holds other_drawn) same ∙ k)
     both_drawn draws (inr high) h k = draws.apart other one target.frame other_drawn drawn high other_at at (ap (holds other_drawn) same ∙ k) h
 
-    by_part : AreDraws (free_frames ram (all_passed [] entries)) all → ((target.kind ≡ Ram) × (holds drawn target.frame ≡ true)) ⊎ IsMappedByItem (all_passed [] entries) one page target →
+    by_part : AreDraws (free_frames host.ram (all_passed [] entries)) all → ((target.kind ≡ Ram) × (holds drawn target.frame ≡ true)) ⊎ IsMappedByItem (all_passed [] entries) one page target →
         ((other_target.kind ≡ Ram) × (holds other_drawn other_target.frame ≡ true)) ⊎ IsMappedByItem (all_passed [] entries) other other_page other_target → MeetWhereShared (all_passed [] entries) one other target other_target
     by_part draws (inl h) (inl k) = absurd (both_drawn draws (order one other apart) h.1 k.1)
     by_part draws (inl h) (inr k) = absurd (not_claimed target.frame (draws.was_free one target.frame drawn at h.1) other other_page other_target (sym same) k)
     by_part draws (inr h) (inl k) = absurd (not_claimed other_target.frame (draws.was_free other other_target.frame other_drawn other_at k.1) one page target same h)
-    by_part draws (inr h) (inr k) = items_meet ram entries none sound one other page other_page target other_target apart h k same
+    by_part draws (inr h) (inr k) = items_meet host entries none sound one other page other_page target other_target apart h k same
 
 -- what is left for tables is mapped by no guest
-pub left_is_unmapped : (ram : List FrameRange) (entries : List Entry) (guests : List Guest) (all : Heaps) → first_refused ram [] entries ≡ None → AreSound entries → heaps guests (free_frames ram (all_passed [] entries)) ≡ Ok all →
+pub left_is_unmapped : (host : Host) (entries : List Entry) (guests : List Guest) (all : Heaps) → first_refused host [] entries ≡ None → AreSound entries → heaps guests (free_frames host.ram (all_passed [] entries)) ≡ Ok all →
     (number page : ℕ) (drawn : List FrameRange) (target : Target) → slice_get all.drawn number ≡ Some drawn → target_of (guest_ranges (all_passed [] entries) number drawn) page ≡ Some target → is_in all.left target.frame ≡ false
-left_is_unmapped ram entries guests all none sound drew number page drawn target at mapped =
-    let draws = heaps_tell guests (free_frames ram (all_passed [] entries)) all drew in
+left_is_unmapped host entries guests all none sound drew number page drawn target at mapped =
+    let draws = heaps_tell guests (free_frames host.ram (all_passed [] entries)) all drew in
     by_part draws (guest_tells (all_passed [] entries) number drawn page target mapped)
   where
-    by_left : AreDraws (free_frames ram (all_passed [] entries)) all → IsMappedByItem (all_passed [] entries) number page target → (is_in all.left target.frame ≡ true) ⊎ (is_in all.left target.frame ≡ false) → is_in all.left target.frame ≡ false
+    by_left : AreDraws (free_frames host.ram (all_passed [] entries)) all → IsMappedByItem (all_passed [] entries) number page target → (is_in all.left target.frame ≡ true) ⊎ (is_in all.left target.frame ≡ false) → is_in all.left target.frame ≡ false
     by_left draws item (inr out) = out
     by_left draws item (inl inside) =
-        let clear = all_clear ram [] entries none sound item.place item.mine (omega arith) item.at in
-        let m = item_tells ram (all_passed [] entries) item.place item.mine clear.0 page target clear.1 item.mapped in
-        absurd (free_unclaimed ram (all_passed [] entries) target.frame item.place item.mine (draws.left_free target.frame inside) item.at m.claimed)
+        let clear = all_clear host [] entries none sound item.place item.mine (omega arith) item.at in
+        let m = item_tells host (all_passed [] entries) item.place item.mine clear.0 page target clear.1 item.mapped in
+        absurd (free_unclaimed host.ram (all_passed [] entries) target.frame item.place item.mine (draws.left_free target.frame inside) item.at m.claimed)
 
-    by_part : AreDraws (free_frames ram (all_passed [] entries)) all → ((target.kind ≡ Ram) × (holds drawn target.frame ≡ true)) ⊎ IsMappedByItem (all_passed [] entries) number page target → is_in all.left target.frame ≡ false
+    by_part : AreDraws (free_frames host.ram (all_passed [] entries)) all → ((target.kind ≡ Ram) × (holds drawn target.frame ≡ true)) ⊎ IsMappedByItem (all_passed [] entries) number page target → is_in all.left target.frame ≡ false
     by_part draws (inl h) = draws.not_left number target.frame drawn at h.1
     by_part draws (inr item) = by_left draws item (true_or_false (is_in all.left target.frame))

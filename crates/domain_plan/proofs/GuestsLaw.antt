@@ -75,9 +75,9 @@ own_apart front mine pages = by_what (what_of mine) refl
 head_pages : (front : List Passed) (p : Passed) (guest : Guest) → p.pages ≡ pages_of front p.entry → what_of p ≡ head_of guest.domain → p.pages ≡ bank_pages 0 guest.domain.pages
 head_pages front p guest pages says = rw says at pages
 
-pub sound_guest : (host : Host) (loads : List Loaded) (guests : List Guest) → AreRead host loads guests → first_refused host.ram [] (joined host loads guests) ≡ None → (number : ℕ) (guest : Guest) → slice_get guests number ≡ Some guest → IsSoundGuest guest
+pub sound_guest : (host : Host) (loads : List Loaded) (guests : List Guest) → AreRead host loads guests → first_refused host [] (joined host loads guests) ≡ None → (number : ℕ) (guest : Guest) → slice_get guests number ≡ Some guest → IsSoundGuest guest
 sound_guest host loads guests read none number guest at =
-    let all = read.guests_sound (no_own host.ram [] (joined host loads guests) none) in
+    let all = read.guests_sound (no_own host [] (joined host loads guests) none) in
     subst IsSoundGuest (get_or_from_slice_get guests number guest guest at) (all number guest (slice_get_within guests number guest at))
 
 -- an entry that was passed, at its place
@@ -95,7 +95,7 @@ entry_at : (entries : List Entry) (k : ℕ) (p : Passed) → slice_get (all_pass
 entry_at entries k p at =
     ap (λ (xs : List Entry). slice_get xs k) (sym (entries_passed [] entries)) ∙ slice_get-map (λ (one : Passed). one.entry) (all_passed [] entries) k ∙ ap (option_map (λ (one : Passed). one.entry)) at
 
-pub guests_apart : (host : Host) (loads : List Loaded) (guests : List Guest) (all : Heaps) → AreRead host loads guests → first_refused host.ram [] (joined host loads guests) ≡ None → heaps guests (free_frames host.ram (passed_of host loads guests)) ≡ Ok all →
+pub guests_apart : (host : Host) (loads : List Loaded) (guests : List Guest) (all : Heaps) → AreRead host loads guests → first_refused host [] (joined host loads guests) ≡ None → heaps guests (free_frames host.ram (passed_of host loads guests)) ≡ Ok all →
     (number : ℕ) (drawn : List FrameRange) → slice_get all.drawn number ≡ Some drawn → AreApart (guest_ranges (passed_of host loads guests) number drawn)
 unfolding guest_ranges
 guests_apart host loads guests all read none drew number drawn at =
@@ -104,8 +104,8 @@ guests_apart host loads guests all read none drew number drawn at =
     passed : List Passed
     passed = passed_of host loads guests
 
-    clear : (k : ℕ) (p : Passed) → slice_get (passed_of host loads guests) k ≡ Some p → (front : List Passed) × IsClear host.ram (passed_of host loads guests) k p front
-    clear k p there = all_clear host.ram [] (joined host loads guests) none read.items k p (omega arith) there
+    clear : (k : ℕ) (p : Passed) → slice_get (passed_of host loads guests) k ≡ Some p → (front : List Passed) × IsClear host (passed_of host loads guests) k p front
+    clear k p there = all_clear host [] (joined host loads guests) none read.items k p (omega arith) there
 
     each : (k : ℕ) (p : Passed) → slice_get (passed_of host loads guests) k ≡ Some p → AreApart (maps_of p)
     each k p there = let c = clear k p there in own_apart c.0 p (ap (λ (one : Passed). one.pages) c.1.made)
@@ -114,11 +114,11 @@ guests_apart host loads guests all read none drew number drawn at =
     items j k page one other p q low p_at q_at p_of q_of p_maps q_maps =
         let a = clear j p p_at in
         let b = clear k q q_at in
-        let m = item_tells host.ram (passed_of host loads guests) j p a.0 page one a.1 p_maps in
-        let n = item_tells host.ram (passed_of host loads guests) k q b.0 page other b.1 q_maps in
-        pages_apart host.ram (passed_of host loads guests) j k number p q b.0 page low p_at b.1 n.mapping (belongs_tells number q q_of) p_of m.filled n.filled
+        let m = item_tells host (passed_of host loads guests) j p a.0 page one a.1 p_maps in
+        let n = item_tells host (passed_of host loads guests) k q b.0 page other b.1 q_maps in
+        pages_apart host (passed_of host loads guests) j k number p q b.0 page low p_at b.1 n.mapping (belongs_tells number q q_of) p_of m.filled n.filled
 
-    before_it : (j k : ℕ) (p q : Passed) (guest : Guest) (page : ℕ) (front : List Passed) → j ≤ k → slice_get (passed_of host loads guests) j ≡ Some p → slice_get (passed_of host loads guests) k ≡ Some q → IsClear host.ram (passed_of host loads guests) k q front →
+    before_it : (j k : ℕ) (p q : Passed) (guest : Guest) (page : ℕ) (front : List Passed) → j ≤ k → slice_get (passed_of host loads guests) j ≡ Some p → slice_get (passed_of host loads guests) k ≡ Some q → IsClear host (passed_of host loads guests) k q front →
         is_mapping (what_of q) ≡ true → what_of p ≡ head_of guest.domain → q.entry.guest ≡ Some number → belongs_to (Some number) p ≡ true → holds p.pages page ≡ true → holds q.pages page ≡ true → ⊥
     before_it j k p q guest page front low p_at q_at q_clear mapping says of_guest belongs one other = by_order (order j k low)
       where
@@ -126,7 +126,7 @@ guests_apart host loads guests all read none drew number drawn at =
         order j k low = grind arith
 
         by_order : (j < k) ⊎ (j ≡ k) → ⊥
-        by_order (inl less) = pages_apart host.ram (passed_of host loads guests) j k number p q front page less p_at q_clear mapping of_guest belongs one other
+        by_order (inl less) = pages_apart host (passed_of host loads guests) j k number p q front page less p_at q_clear mapping of_guest belongs one other
         by_order (inr at_same) =
             let same : p ≡ q = same_Some p q (sym p_at ∙ ap (slice_get (passed_of host loads guests)) at_same ∙ q_at) in
             let head : what_of q ≡ head_of guest.domain = ap what_of (sym same) ∙ says in
@@ -136,7 +136,7 @@ guests_apart host loads guests all read none drew number drawn at =
     cross page one other e f =
         let found = items_tell (passed_of host loads guests) number page other f in
         let c = clear found.place found.mine found.at in
-        let n = item_tells host.ram (passed_of host loads guests) found.place found.mine c.0 page other c.1 found.mapped in
+        let n = item_tells host (passed_of host loads guests) found.place found.mine c.0 page other c.1 found.mapped in
         let of_guest = belongs_tells number found.mine found.belongs in
         let head = head_joined host loads guests found.place number found.mine.entry (entry_at (joined host loads guests) found.place found.mine found.at) of_guest in
         let own = passed_at (joined host loads guests) head.at head.head head.there in
@@ -158,7 +158,7 @@ guests_are_apart host loads guests read all is =
     record {
       function = λ number drawn at. apart_function (guest_ranges (passed_of host loads guests) number drawn) (guests_apart host loads guests all read parts.0 parts.1 number drawn at);
       meet = λ one other page other_page drawn other_drawn target other_target apart at other_at mapped other_mapped same.
-          guests_meet host.ram (joined host loads guests) guests all parts.0 read.items parts.1 one other page other_page drawn other_drawn target other_target apart at other_at mapped other_mapped same;
-      left_unmapped = λ number page drawn target at mapped. left_is_unmapped host.ram (joined host loads guests) guests all parts.0 read.items parts.1 number page drawn target at mapped;
+          guests_meet host (joined host loads guests) guests all parts.0 read.items parts.1 one other page other_page drawn other_drawn target other_target apart at other_at mapped other_mapped same;
+      left_unmapped = λ number page drawn target at mapped. left_is_unmapped host (joined host loads guests) guests all parts.0 read.items parts.1 number page drawn target at mapped;
       left_once = heaps_ascend guests (free_frames host.ram (passed_of host loads guests)) all (free_ascending host.ram (passed_of host loads guests) read.ram) parts.1;
     }

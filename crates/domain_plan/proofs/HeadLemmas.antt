@@ -245,13 +245,13 @@ head_joined host loads guests k m entry at is = by_part (split_get front (guest_
         }
 
 -- no item that is not refused has a reason of its own
-pub no_own : (ram : List FrameRange) (before : List Passed) (entries : List Entry) → first_refused ram before entries ≡ None → has_no_fault entries ≡ true
+pub no_own : (host : Host) (before : List Passed) (entries : List Entry) → first_refused host before entries ≡ None → has_no_fault entries ≡ true
 unfolding first_refused
-no_own ram before [] none = refl
-no_own ram before (entry ∷ entries) none = by_why entry.described.own (first_there (cross_reasons ram before (passing before entry))) none (λ later. no_own ram (before ++ passing before entry ∷ []) entries later)
+no_own host before [] none = refl
+no_own host before (entry ∷ entries) none = by_why entry.described.own (first_there (cross_reasons host before (passing before entry))) none (λ later. no_own host (before ++ passing before entry ∷ []) entries later)
   where
-    by_why : (own cross : Option Why) → or_later entry.described.item (option_or own cross) (first_refused ram (before ++ passing before entry ∷ []) entries) ≡ None →
-        (first_refused ram (before ++ passing before entry ∷ []) entries ≡ None → has_no_fault entries ≡ true) → (is_none own && has_no_fault entries) ≡ true
+    by_why : (own cross : Option Why) → or_later entry.described.item (option_or own cross) (first_refused host (before ++ passing before entry ∷ []) entries) ≡ None →
+        (first_refused host (before ++ passing before entry ∷ []) entries ≡ None → has_no_fault entries ≡ true) → (is_none own && has_no_fault entries) ≡ true
     by_why None None e later = later e
     by_why None (Some reason) e later = absurd cc
     by_why (Some reason) cross e later = absurd cc

@@ -18,8 +18,10 @@ use Rattle.dl_base.specs.Consecutive.{numbers, is_in}
 use Rattle.std.specs.Fmt.{digits}
 use Rattle.frame_alloc.specs.Frames.{without, lowest_group}
 use Rattle.frame_ranges.specs.Ranges.{have_common, lie_in}
+use Rattle.domain_bindings.specs.declared.host.Host.{Host}
 use Rattle.domain_plan.specs.Entries.{Entry}
 use Rattle.domain_plan.specs.Taken.{all_passed}
+use Rattle.domain_plan.specs.Layouts.{layout_of}
 use Rattle.domain_plan.specs.Refusals.{Refusal, first_refused}
 use Rattle.domain_plan.specs.Draws.{Drawn, Heaps, drawn, groups_drawn, free_frames, heaps}
 use Rattle.fdt_tree.specs.declared.node_id.NodeId.{NodeId}
@@ -62,8 +64,12 @@ static path base size = item parts.Static path 0 (whats.Static (at base size))
 abbrev text : Refusal → List ℕ
 text refusal = item_text refusal.0 ++ codes ": " ++ why_text refusal.1
 
+-- a host of which the memory alone is known
+abbrev bare : List FrameRange → Host
+bare ram = record { items = []; modules = []; ram = ram; gic = None; areas = None; console = None }
+
 abbrev told : List FrameRange → List Entry → Option (List ℕ)
-told ram entries = option_map text (first_refused ram [] entries)
+told ram entries = option_map text (first_refused (bare ram) [] entries)
 
 -- direct-mapped static memory over the console's page
 abbrev over_layout : List Entry
@@ -249,3 +255,32 @@ owner_twice_told = refl
 partial_unread_told : told h2 (guest 0 (head dom0 0 false false) ∷ guest 0 (item parts.Module (dom0 ++ codes "/passthrough") 0 (whats.Module DeviceTree (at 0x2000000 0x209))) ∷ []) ≡ Some (codes "/chosen/domU0/passthrough: PartialUnread")
 unfolding first_refused have_common lie_in numbers digits usual_layout
 partial_unread_told = refl
+
+-- a host that tells where its own devices stand
+abbrev with_devices : Host
+with_devices = record (bare h2) { areas = Some ((0x8000000, 0x10000), (0x80a0000, 0xf60000)); console = Some 0xff010000 }
+
+-- of a direct-mapped guest the host's areas alone may not be filled
+abbrev told_with_devices : Bool → Bool → ℕ → Option (List ℕ)
+told_with_devices direct console base = option_map text (first_refused with_devices [] (guest 0 (head dom0 0 direct console) ∷ guest 0 (static dom0 base 0x1000) ∷ []))
+
+usual_console_free : told_with_devices true true 0x22000000 ≡ None
+unfolding first_refused have_common lie_in numbers digits usual_layout
+usual_console_free = refl
+
+host_distributor_told : told_with_devices true true 0x8000000 ≡ Some (codes "/chosen/domU0 static 0: GuestOverlap layout")
+unfolding first_refused have_common lie_in numbers digits usual_layout
+host_distributor_told = refl
+
+-- without a console the usual one's area is kept
+usual_console_told : told_with_devices true false 0x22000000 ≡ Some (codes "/chosen/domU0 static 0: GuestOverlap layout")
+unfolding first_refused have_common lie_in numbers digits usual_layout
+usual_console_told = refl
+
+-- the layout of a guest that is not direct-mapped, and of one whose areas would meet: the console in the grant table's
+usual_for_others : layout_of with_devices false true ≡ usual_layout
+usual_for_others = refl
+
+usual_where_areas_meet : layout_of (record with_devices { console = Some 0x38001000 }) true true ≡ usual_layout
+unfolding usual_layout
+usual_where_areas_meet = refl

@@ -27,3 +27,4 @@ pub mod RegionLemmas
 pub mod SpiLemmas
 pub mod StandingLemmas
 pub mod TakingsLemmas
+pub mod LayoutLemmas

@@ -14,6 +14,7 @@ use Rattle.dl_base.specs.declared.item.What.{What}
 use Rattle.dl_base.specs.declared.item.What.TheVariants as whats
 use Rattle.frame_alloc.specs.Frames.{is_within}
 use Rattle.frame_alloc.proofs.Without.{is_within-in}
+use Rattle.domain_bindings.specs.declared.host.Host.{Host}
 use Rattle.frame_ranges.specs.Ranges.{holds, touched, cut}
 use Rattle.domain_plan.specs.Taken.{Passed, what_of, belongs_to, bank_pages, is_direct, pages_before, is_repeated, claims_of, pages_of}
 use Rattle.domain_plan.specs.GuestMaps.{onto, laid, maps_of, guest_ranges}
@@ -128,9 +129,9 @@ in_whole kind base size pages page target whole count onto =
 one_total : (range : FrameRange) → total (range ∷ []) ≡ range.count
 one_total range = omega arith
 
-pub item_tells : (ram : List FrameRange) (all : List Passed) (place : ℕ) (mine : Passed) (front : List Passed) (page : ℕ) (target : Target) → IsClear ram all place mine front → target_of (maps_of mine) page ≡ Some target →
+pub item_tells : (host : Host) (all : List Passed) (place : ℕ) (mine : Passed) (front : List Passed) (page : ℕ) (target : Target) → IsClear host all place mine front → target_of (maps_of mine) page ≡ Some target →
     IsMapped mine page target
-item_tells ram all place mine front page target clear is =
+item_tells host all place mine front page target clear is =
     by_what (what_of mine) refl is clear.sound (ap (λ (one : Passed). one.claims) clear.made) (ap (λ (one : Passed). one.pages) clear.made)
   where
     goal : Type 0

@@ -19,7 +19,8 @@ use Rattle.domain_plan.specs.declared.planned.GuestPlan.{GuestPlan}
 use Rattle.frame_ranges.specs.Ranges.{touched, cut}
 use Rattle.domain_plan.specs.Entries.{Entry, of_host, of_guest, guest_entries, load_item, is_read, items_of}
 use Rattle.domain_plan.specs.Taken.{Passed, what_of, belongs_to, says_direct, is_direct, static_pages, pages_before, is_range, is_repeated, bank_pages, pages_of, passing, all_passed}
-use Rattle.domain_plan.specs.Reasons.{is_irq}
+use Rattle.domain_plan.specs.Reasons.{is_irq, has_console, is_with_console}
+use Rattle.domain_plan.specs.Layouts.{layout_of}
 use Rattle.domain_plan.specs.GuestMaps.{laid, guest_ranges}
 use Rattle.domain_plan.specs.PrivateLaying.{maps_by}
 use Rattle.domain_plan.specs.Plans.{passed_of, said_by, static_memory, banks_filled, region_of, port_of, IsGuestPlan}
@@ -71,6 +72,9 @@ own_sum f number (p ∷ ps) = sum_by-cons (λ (one : Passed). cond (belongs_to (
 -- the same items of the guest tell the same of it
 pub same_direct : (number : ℕ) (ones others : List Passed) → own_of number ones ≡ own_of number others → is_direct ones (Some number) ≡ is_direct others (Some number)
 same_direct number ones others same = own_any says_direct number ones ∙ ap (list_any (λ (own : Own). says_direct own.0)) same ∙ sym (own_any says_direct number others)
+
+pub same_console : (number : ℕ) (ones others : List Passed) → own_of number ones ≡ own_of number others → is_with_console ones (Some number) ≡ is_with_console others (Some number)
+same_console number ones others same = own_any has_console number ones ∙ ap (list_any (λ (own : Own). has_console own.0)) same ∙ sym (own_any has_console number others)
 
 pub same_static : (number : ℕ) (ones others : List Passed) → own_of number ones ≡ own_of number others → pages_before ones (Some number) ≡ pages_before others (Some number)
 same_static number ones others same = ap cut (own_sum static_pages number ones ∙ ap (sum_by (λ (own : Own). static_pages own.0)) same ∙ sym (own_sum static_pages number others))
@@ -195,13 +199,16 @@ pub same_said : {A : Type 0} (says : What → List A) (number : ℕ) (ones other
 same_said says number ones others same = own_said (λ what _. says what) number ones ∙ ap (flat_map (λ (own : Own). says own.0)) same ∙ sym (own_said (λ what _. says what) number others)
 
 -- the plan of a guest by its own items is its plan
-pub plan_by_own : (passed own : List Passed) (number : ℕ) (guest : Guest) (drawn : List FrameRange) (plan : GuestPlan) → own_of number passed ≡ own_of number own → IsGuestPlan own number guest drawn plan → IsGuestPlan passed number guest drawn plan
-plan_by_own passed own number guest drawn plan same is = record {
+pub plan_by_own : (host : Host) (passed own : List Passed) (number : ℕ) (guest : Guest) (drawn : List FrameRange) (plan : GuestPlan) → own_of number passed ≡ own_of number own → IsGuestPlan host own number guest drawn plan → IsGuestPlan host passed number guest drawn plan
+plan_by_own host passed own number guest drawn plan same is = record {
   guest_number = is.guest_number;
   path = is.path;
   cpus = is.cpus;
   console = is.console;
   gic = is.gic;
+  layout = is.layout
+      ∙ ap (λ (b : Bool). layout_of host b (is_with_console own (Some number))) (sym (same_direct number passed own same))
+      ∙ ap (λ (b : Bool). layout_of host (is_direct passed (Some number)) b) (sym (same_console number passed own same));
   bootargs = is.bootargs;
   memories = is.memories
       ∙ ap (λ (b : Bool). cond b (said_by own number static_memory) (banks_filled (guest.domain.pages + pages_before own (Some number)))) (sym (same_direct number passed own same))

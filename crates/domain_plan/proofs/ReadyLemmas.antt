@@ -31,10 +31,10 @@ each_sound number read [] sound k d low = absurd (omega arith)
 each_sound number read (item ∷ items) sound zero d low = sound.0
 each_sound number read (item ∷ items) sound (suc k) d low = each_sound number read items sound.1 k d (omega arith)
 
-pub ready : (host : Host) (loads : List Loaded) (guests : List Guest) (all : Heaps) → AreRead host loads guests → first_refused host.ram [] (joined host loads guests) ≡ None → heaps guests (free_frames host.ram (passed_of host loads guests)) ≡ Ok all →
+pub ready : (host : Host) (loads : List Loaded) (guests : List Guest) (all : Heaps) → AreRead host loads guests → first_refused host [] (joined host loads guests) ≡ None → heaps guests (free_frames host.ram (passed_of host loads guests)) ≡ Ok all →
     (number : ℕ) (guest : Guest) (frames : List FrameRange) → slice_get guests number ≡ Some guest → slice_get all.drawn number ≡ Some frames → IsReady number guest frames
 ready host loads guests all read none drew number guest frames at at_drawn =
-    let sound : AllSound (own_entries number guest) = own_sound host loads guests number guest (no_own host.ram [] (joined host loads guests) none) read.items at in
+    let sound : AllSound (own_entries number guest) = own_sound host loads guests number guest (no_own host [] (joined host loads guests) none) read.items at in
     let own : IsSoundGuest guest = sound_guest host loads guests read none number guest at in
     let few : guest.domain.pages ≤ 2 ^ 22 = few_pages number guest sound own in
     let amount = heaps_total guests (free_frames host.ram (passed_of host loads guests)) all number frames drew at_drawn in
@@ -79,16 +79,16 @@ item_at (y ∷ ys) zero x low is = ap Some (sym is)
 item_at (y ∷ ys) (suc i) x low is = item_at ys i x (omega arith) is
 
 -- one guest's plan more
-pub plans_more : (passed : List Passed) (number : ℕ) (gs : List Guest) (ds : List (List FrameRange)) (ps : List GuestPlan) (at : ℕ) (g : Guest) (d : List FrameRange) (p : GuestPlan) → AreGuestPlans passed number gs ds ps → number + length gs ≡ at → IsGuestPlan passed at g d p →
-    AreGuestPlans passed number (gs ++ g ∷ []) (ds ++ d ∷ []) (ps ++ p ∷ [])
-plans_more passed number [] [] [] at g d p are here plan = (subst (λ (n : ℕ). IsGuestPlan passed n g d p) (let e : at ≡ number = omega arith in e) plan, tt)
-plans_more passed number (x ∷ gs) (y ∷ ds) (z ∷ ps) at g d p are here plan = (are.0, plans_more passed (number + 1) gs ds ps at g d p are.1 (omega arith) plan)
-plans_more passed number [] [] (z ∷ ps) at g d p are here plan = absurd are
-plans_more passed number [] (y ∷ ds) [] at g d p are here plan = absurd are
-plans_more passed number [] (y ∷ ds) (z ∷ ps) at g d p are here plan = absurd are
-plans_more passed number (x ∷ gs) [] [] at g d p are here plan = absurd are
-plans_more passed number (x ∷ gs) [] (z ∷ ps) at g d p are here plan = absurd are
-plans_more passed number (x ∷ gs) (y ∷ ds) [] at g d p are here plan = absurd are
+pub plans_more : (host : Host) (passed : List Passed) (number : ℕ) (gs : List Guest) (ds : List (List FrameRange)) (ps : List GuestPlan) (at : ℕ) (g : Guest) (d : List FrameRange) (p : GuestPlan) → AreGuestPlans host passed number gs ds ps → number + length gs ≡ at → IsGuestPlan host passed at g d p →
+    AreGuestPlans host passed number (gs ++ g ∷ []) (ds ++ d ∷ []) (ps ++ p ∷ [])
+plans_more host passed number [] [] [] at g d p are here plan = (subst (λ (n : ℕ). IsGuestPlan host passed n g d p) (let e : at ≡ number = omega arith in e) plan, tt)
+plans_more host passed number (x ∷ gs) (y ∷ ds) (z ∷ ps) at g d p are here plan = (are.0, plans_more host passed (number + 1) gs ds ps at g d p are.1 (omega arith) plan)
+plans_more host passed number [] [] (z ∷ ps) at g d p are here plan = absurd are
+plans_more host passed number [] (y ∷ ds) [] at g d p are here plan = absurd are
+plans_more host passed number [] (y ∷ ds) (z ∷ ps) at g d p are here plan = absurd are
+plans_more host passed number (x ∷ gs) [] [] at g d p are here plan = absurd are
+plans_more host passed number (x ∷ gs) [] (z ∷ ps) at g d p are here plan = absurd are
+plans_more host passed number (x ∷ gs) (y ∷ ds) [] at g d p are here plan = absurd are
 
 -- what the guest at a place drew
 pub drawn_at : (ds : List (Vec FrameRange Global)) (i : ℕ) (d : Vec FrameRange Global) (frames : List FrameRange) → i < length ds → d ≡ get_or ds i d → frames ≡ d.items → slice_get (map (λ (one : Vec FrameRange Global). one.items) ds) i ≡ Some frames
@@ -100,11 +100,11 @@ pub as_many : (ds : List (Vec FrameRange Global)) (guests : List Guest) (free le
 as_many ds guests free left is = sym (length-map ds (λ (one : Vec FrameRange Global). one.items)) ∙ drawn_length guests free (record { drawn = map (λ (one : Vec FrameRange Global). one.items) ds; left = left }) is
 
 -- the plans up to a place, and one more
-pub plans_next : (passed : List Passed) (guests : List Guest) (ds : List (Vec FrameRange Global)) (i : ℕ) (g : Guest) (d : Vec FrameRange Global) (frames : List FrameRange) (plans new : List GuestPlan) (p : GuestPlan) →
+pub plans_next : (host : Host) (passed : List Passed) (guests : List Guest) (ds : List (Vec FrameRange Global)) (i : ℕ) (g : Guest) (d : Vec FrameRange Global) (frames : List FrameRange) (plans new : List GuestPlan) (p : GuestPlan) →
     i < length guests → i < length ds → g ≡ get_or guests i g → d ≡ get_or ds i d → frames ≡ d.items → new ≡ plans ++ p ∷ [] →
-    AreGuestPlans passed 0 (take i guests) (map (λ (one : Vec FrameRange Global). one.items) (take i ds)) plans → IsGuestPlan passed i g frames p →
-    AreGuestPlans passed 0 (take (i + 1) guests) (map (λ (one : Vec FrameRange Global). one.items) (take (i + 1) ds)) new
-plans_next passed guests ds i g d frames plans new p low low_ds g_is d_is same pushed are plan =
+    AreGuestPlans host passed 0 (take i guests) (map (λ (one : Vec FrameRange Global). one.items) (take i ds)) plans → IsGuestPlan host passed i g frames p →
+    AreGuestPlans host passed 0 (take (i + 1) guests) (map (λ (one : Vec FrameRange Global). one.items) (take (i + 1) ds)) new
+plans_next host passed guests ds i g d frames plans new p low low_ds g_is d_is same pushed are plan =
     let gs : take (i + 1) guests ≡ take i guests ++ g ∷ [] = take_more guests i g low ∙ ap (λ (one : Guest). take i guests ++ one ∷ []) (sym g_is) in
     let ones : take (i + 1) ds ≡ take i ds ++ d ∷ [] = take_more ds i d low_ds ∙ ap (λ (one : Vec FrameRange Global). take i ds ++ one ∷ []) (sym d_is) in
     let frames_of : map (λ (one : Vec FrameRange Global). one.items) (take (i + 1) ds) ≡ map (λ (one : Vec FrameRange Global). one.items) (take i ds) ++ frames ∷ [] =
@@ -112,14 +112,14 @@ plans_next passed guests ds i g d frames plans new p low low_ds g_is d_is same p
     ∙ ap (λ (xs : List FrameRange). map (λ (one : Vec FrameRange Global). one.items) (take i ds) ++ xs ∷ []) (sym same) in
     let few : i ≤ length guests = omega arith in
     let count : 0 + length (take i guests) ≡ i = let e : length (take i guests) ≡ i = length-take-le i guests few in omega arith in
-    subst (λ (xs : List Guest). AreGuestPlans passed 0 xs (map (λ (one : Vec FrameRange Global). one.items) (take (i + 1) ds)) new) (sym gs)
-    (subst (λ (xs : List (List FrameRange)). AreGuestPlans passed 0 (take i guests ++ g ∷ []) xs new) (sym frames_of)
-    (subst (λ (xs : List GuestPlan). AreGuestPlans passed 0 (take i guests ++ g ∷ []) (map (λ (one : Vec FrameRange Global). one.items) (take i ds) ++ frames ∷ []) xs) (sym pushed)
-    (plans_more passed 0 (take i guests) (map (λ (one : Vec FrameRange Global). one.items) (take i ds)) plans i g frames p are count plan)))
+    subst (λ (xs : List Guest). AreGuestPlans host passed 0 xs (map (λ (one : Vec FrameRange Global). one.items) (take (i + 1) ds)) new) (sym gs)
+    (subst (λ (xs : List (List FrameRange)). AreGuestPlans host passed 0 (take i guests ++ g ∷ []) xs new) (sym frames_of)
+    (subst (λ (xs : List GuestPlan). AreGuestPlans host passed 0 (take i guests ++ g ∷ []) (map (λ (one : Vec FrameRange Global). one.items) (take i ds) ++ frames ∷ []) xs) (sym pushed)
+    (plans_more host passed 0 (take i guests) (map (λ (one : Vec FrameRange Global). one.items) (take i ds)) plans i g frames p are count plan)))
 
 -- all plans
-pub plans_all : (passed : List Passed) (guests : List Guest) (ds : List (Vec FrameRange Global)) (i : ℕ) (plans : List GuestPlan) → length guests ≤ i → length ds ≤ i →
-    AreGuestPlans passed 0 (take i guests) (map (λ (one : Vec FrameRange Global). one.items) (take i ds)) plans → AreGuestPlans passed 0 guests (map (λ (one : Vec FrameRange Global). one.items) ds) plans
-plans_all passed guests ds i plans past past_ds are =
-    subst (λ (xs : List Guest). AreGuestPlans passed 0 xs (map (λ (one : Vec FrameRange Global). one.items) ds) plans) (take_all i guests past)
-    (subst (λ (xs : List (Vec FrameRange Global)). AreGuestPlans passed 0 (take i guests) (map (λ (one : Vec FrameRange Global). one.items) xs) plans) (take_all i ds past_ds) are)
+pub plans_all : (host : Host) (passed : List Passed) (guests : List Guest) (ds : List (Vec FrameRange Global)) (i : ℕ) (plans : List GuestPlan) → length guests ≤ i → length ds ≤ i →
+    AreGuestPlans host passed 0 (take i guests) (map (λ (one : Vec FrameRange Global). one.items) (take i ds)) plans → AreGuestPlans host passed 0 guests (map (λ (one : Vec FrameRange Global). one.items) ds) plans
+plans_all host passed guests ds i plans past past_ds are =
+    subst (λ (xs : List Guest). AreGuestPlans host passed 0 xs (map (λ (one : Vec FrameRange Global). one.items) ds) plans) (take_all i guests past)
+    (subst (λ (xs : List (Vec FrameRange Global)). AreGuestPlans host passed 0 (take i guests) (map (λ (one : Vec FrameRange Global). one.items) xs) plans) (take_all i ds past_ds) are)

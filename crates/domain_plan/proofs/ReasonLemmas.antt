@@ -11,10 +11,11 @@ use Rattle.dl_base.specs.declared.ranges.BaseSize.{BaseSize}
 use Rattle.dl_base.specs.declared.item.ModuleKind.{ModuleKind}
 use Rattle.dl_base.specs.declared.item.What.{What}
 use Rattle.dl_base.specs.declared.item.What.TheVariants as whats
+use Rattle.domain_bindings.specs.declared.host.Host.{Host}
 use Rattle.frame_ranges.specs.Ranges.{have_common, lie_in}
 use Rattle.domain_plan.specs.Taken.{Passed, item_of, what_of, belongs_to}
 use Rattle.dl_base.specs.Reasons.{where_so}
-use Rattle.domain_plan.specs.Reasons.{naming_first, layout_pages, guest_overlap, fills, partial_unread, are_one_region, have_one_base, unlike, is_owner, is_irq, of_another_guest, irq_too_high, irq_of_console, irq_of_another}
+use Rattle.domain_plan.specs.Reasons.{naming_first, area_pages, layout_at, guest_overlap, fills, partial_unread, are_one_region, have_one_base, unlike, is_owner, is_irq, of_another_guest, irq_too_high, irq_of_console, irq_of_another}
 use Rattle.domain_plan.specs.Refusals.{cross_reasons, first_there}
 use Rattle.domain_plan.specs.PrivateStanding.{claims_taken, pages_taken, overlap_in, is_region, naming_reasons, landing_reasons, is_of_other, irq_reasons}
 use Rattle.frame_ranges.proofs.CommonFrames.{none_common}
@@ -31,10 +32,10 @@ pages_fill true pages mine = refl
 pages_fill false pages mine = none_common mine
 
 -- an overlap in the guest, by the pages that its items fill
-pub guest_overlap_is : (before : List Passed) (mine : Passed) →
-    overlap_in (have_common layout_pages mine.pages) (naming_first (λ passed. have_common (pages_taken mine.entry.guest passed) mine.pages) whys.GuestOverlap before) ≡ guest_overlap before mine
-guest_overlap_is before mine =
-    ap (overlap_in (have_common layout_pages mine.pages))
+pub guest_overlap_is : (host : Host) (before : List Passed) (mine : Passed) →
+    overlap_in (have_common (area_pages (layout_at host before mine.entry.guest)) mine.pages) (naming_first (λ passed. have_common (pages_taken mine.entry.guest passed) mine.pages) whys.GuestOverlap before) ≡ guest_overlap host before mine
+guest_overlap_is host before mine =
+    ap (overlap_in (have_common (area_pages (layout_at host before mine.entry.guest)) mine.pages))
     (naming_same (λ passed. have_common (pages_taken mine.entry.guest passed) mine.pages) (fills mine) whys.GuestOverlap before
     (λ passed. pages_fill (belongs_to mine.entry.guest passed) passed.pages mine.pages))
 
@@ -43,44 +44,44 @@ or_none_last None = refl
 or_none_last (Some x) = refl
 
 -- what the state tells of the host's memory and of the items before
-abbrev pub landing : List FrameRange → List Passed → List FrameRange → Option Why
-landing ram before claims =
-    option_or (where_so (not (lie_in ram claims)) whys.NotRam) (naming_first (λ passed. have_common (claims_taken passed) claims) whys.HostOverlap before)
+abbrev pub landing : Host → List Passed → List FrameRange → Option Why
+landing host before claims =
+    option_or (where_so (not (lie_in host.ram claims)) whys.NotRam) (naming_first (λ passed. have_common (claims_taken passed) claims) whys.HostOverlap before)
 
 -- and of the guest
-abbrev pub filling : List Passed → Passed → Option Why
-filling before mine =
-    overlap_in (have_common layout_pages mine.pages) (naming_first (λ passed. have_common (pages_taken mine.entry.guest passed) mine.pages) whys.GuestOverlap before)
+abbrev pub filling : Host → List Passed → Passed → Option Why
+filling host before mine =
+    overlap_in (have_common (area_pages (layout_at host before mine.entry.guest)) mine.pages) (naming_first (λ passed. have_common (pages_taken mine.entry.guest passed) mine.pages) whys.GuestOverlap before)
 
-pub load_reasons : (ram : List FrameRange) (before : List Passed) (mine : Passed) (at : BaseSize) → what_of mine ≡ whats.Load at →
-    landing ram before mine.claims ≡ first_there (cross_reasons ram before mine)
-load_reasons ram before mine at is =
-    rw is (ap (option_or (where_so (not (lie_in ram mine.claims)) whys.NotRam)) (sym (or_none_last (naming_first (λ passed. have_common (claims_taken passed) mine.claims) whys.HostOverlap before))))
+pub load_reasons : (host : Host) (before : List Passed) (mine : Passed) (at : BaseSize) → what_of mine ≡ whats.Load at →
+    landing host before mine.claims ≡ first_there (cross_reasons host before mine)
+load_reasons host before mine at is =
+    rw is (ap (option_or (where_so (not (lie_in host.ram mine.claims)) whys.NotRam)) (sym (or_none_last (naming_first (λ passed. have_common (claims_taken passed) mine.claims) whys.HostOverlap before))))
 
 three : (a b c : Option Why) → option_or (option_or a b) c ≡ option_or a (option_or b (option_or c None))
 three None None c = sym (or_none_last c)
 three None (Some b) c = refl
 three (Some a) b c = refl
 
-pub module_reasons : (ram : List FrameRange) (before : List Passed) (mine : Passed) (kind : ModuleKind) (at : BaseSize) → what_of mine ≡ whats.Module kind at →
-    option_or (landing ram before mine.claims) (partial_unread kind mine) ≡ first_there (cross_reasons ram before mine)
-module_reasons ram before mine kind at is =
-    rw is (three (where_so (not (lie_in ram mine.claims)) whys.NotRam) (naming_first (λ passed. have_common (claims_taken passed) mine.claims) whys.HostOverlap before) (partial_unread kind mine))
+pub module_reasons : (host : Host) (before : List Passed) (mine : Passed) (kind : ModuleKind) (at : BaseSize) → what_of mine ≡ whats.Module kind at →
+    option_or (landing host before mine.claims) (partial_unread kind mine) ≡ first_there (cross_reasons host before mine)
+module_reasons host before mine kind at is =
+    rw is (three (where_so (not (lie_in host.ram mine.claims)) whys.NotRam) (naming_first (λ passed. have_common (claims_taken passed) mine.claims) whys.HostOverlap before) (partial_unread kind mine))
 
-pub static_reasons : (ram : List FrameRange) (before : List Passed) (mine : Passed) (at : BaseSize) → what_of mine ≡ whats.Static at →
-    option_or (landing ram before mine.claims) (filling before mine) ≡ first_there (cross_reasons ram before mine)
-static_reasons ram before mine at is =
-    ap (option_or (landing ram before mine.claims)) (guest_overlap_is before mine)
-    ∙ rw is (three (where_so (not (lie_in ram mine.claims)) whys.NotRam) (naming_first (λ passed. have_common (claims_taken passed) mine.claims) whys.HostOverlap before) (guest_overlap before mine))
+pub static_reasons : (host : Host) (before : List Passed) (mine : Passed) (at : BaseSize) → what_of mine ≡ whats.Static at →
+    option_or (landing host before mine.claims) (filling host before mine) ≡ first_there (cross_reasons host before mine)
+static_reasons host before mine at is =
+    ap (option_or (landing host before mine.claims)) (guest_overlap_is host before mine)
+    ∙ rw is (three (where_so (not (lie_in host.ram mine.claims)) whys.NotRam) (naming_first (λ passed. have_common (claims_taken passed) mine.claims) whys.HostOverlap before) (guest_overlap host before mine))
 
 -- an earlier item that claims one of these frames
 abbrev pub claiming : List Passed → List FrameRange → Option Why
 claiming before claims = naming_first (λ passed. have_common (claims_taken passed) claims) whys.HostOverlap before
 
-pub range_reasons : (ram : List FrameRange) (before : List Passed) (mine : Passed) (host size guest : ℕ) → what_of mine ≡ whats.Range host size guest →
-    option_or (claiming before mine.claims) (filling before mine) ≡ first_there (cross_reasons ram before mine)
-range_reasons ram before mine host size guest is =
-    ap (option_or (claiming before mine.claims)) (guest_overlap_is before mine ∙ sym (or_none_last (guest_overlap before mine))) ∙ rw is refl
+pub range_reasons : (host : Host) (before : List Passed) (mine : Passed) (from size guest : ℕ) → what_of mine ≡ whats.Range from size guest →
+    option_or (claiming before mine.claims) (filling host before mine) ≡ first_there (cross_reasons host before mine)
+range_reasons host before mine from size guest is =
+    ap (option_or (claiming before mine.claims)) (guest_overlap_is host before mine ∙ sym (or_none_last (guest_overlap host before mine))) ∙ rw is refl
 
 region_is : (id : List ℕ) (host page size : ℕ) (owns : Bool) (what : What) → is_region id what ≡ are_one_region (whats.Shared id host page size owns) what
 region_is id host page size owns what = elim what as (λ (w : What). is_region id w ≡ are_one_region (whats.Shared id host page size owns) w) [
@@ -107,27 +108,27 @@ six None None (Some c) d e f = refl
 six None (Some b) c d e f = refl
 six (Some a) b c d e f = refl
 
-pub shared_reasons : (ram : List FrameRange) (before : List Passed) (mine : Passed) (id : List ℕ) (host page size : ℕ) (owns : Bool) → what_of mine ≡ whats.Shared id host page size owns →
-    option_or (naming_reasons mine.entry.guest id host size owns before) (landing_reasons mine.entry.guest ram id mine.claims mine.pages before) ≡ first_there (cross_reasons ram before mine)
-shared_reasons ram before mine id host page size owns is =
-    let one : Passed → Bool = λ p. are_one_region (whats.Shared id host page size owns) (what_of p) in
-    let same : (p : Passed) → is_region id (what_of p) ≡ one p = λ p. region_is id host page size owns (what_of p) in
+pub shared_reasons : (host : Host) (before : List Passed) (mine : Passed) (id : List ℕ) (from page size : ℕ) (owns : Bool) → what_of mine ≡ whats.Shared id from page size owns →
+    option_or (naming_reasons mine.entry.guest id from size owns before) (landing_reasons mine.entry.guest host id mine.claims mine.pages before) ≡ first_there (cross_reasons host before mine)
+shared_reasons host before mine id from page size owns is =
+    let one : Passed → Bool = λ p. are_one_region (whats.Shared id from page size owns) (what_of p) in
+    let same : (p : Passed) → is_region id (what_of p) ≡ one p = λ p. region_is id from page size owns (what_of p) in
     let twice : naming_first (λ p. belongs_to mine.entry.guest p && is_region id (what_of p)) whys.ShmTwice before ≡ naming_first (λ p. belongs_to mine.entry.guest p && one p) whys.ShmTwice before =
     naming_same (λ p. belongs_to mine.entry.guest p && is_region id (what_of p)) (λ p. belongs_to mine.entry.guest p && one p) whys.ShmTwice before (λ p. ap (λ (b : Bool). belongs_to mine.entry.guest p && b) (same p)) in
-    let differs : unlike (whats.Shared id host 0 size false) (find (λ (p : Passed). is_region id (what_of p)) before) ≡ unlike (whats.Shared id host page size owns) (find one before) =
-    unlike_is id host page size owns (find (λ (p : Passed). is_region id (what_of p)) before) ∙ ap (unlike (whats.Shared id host page size owns)) (find_same (λ (p : Passed). is_region id (what_of p)) one before same) in
+    let differs : unlike (whats.Shared id from 0 size false) (find (λ (p : Passed). is_region id (what_of p)) before) ≡ unlike (whats.Shared id from page size owns) (find one before) =
+    unlike_is id from page size owns (find (λ (p : Passed). is_region id (what_of p)) before) ∙ ap (unlike (whats.Shared id from page size owns)) (find_same (λ (p : Passed). is_region id (what_of p)) one before same) in
     let owners : naming_first (λ p. is_region id (what_of p) && is_owner (what_of p)) whys.OwnerTwice before ≡ naming_first (λ p. one p && is_owner (what_of p)) whys.OwnerTwice before =
     naming_same (λ p. is_region id (what_of p) && is_owner (what_of p)) (λ p. one p && is_owner (what_of p)) whys.OwnerTwice before (λ p. ap (λ (b : Bool). b && is_owner (what_of p)) (same p)) in
     let overlap : naming_first (λ p. not (is_region id (what_of p)) && have_common (claims_taken p) mine.claims) whys.HostOverlap before ≡ naming_first (λ p. not (one p) && have_common p.claims mine.claims) whys.HostOverlap before =
     naming_same (λ p. not (is_region id (what_of p)) && have_common (claims_taken p) mine.claims) (λ p. not (one p) && have_common p.claims mine.claims) whys.HostOverlap before (λ p. ap (λ (b : Bool). not b && have_common p.claims mine.claims) (same p)) in
-    let named : naming_reasons mine.entry.guest id host size owns before ≡ option_or (naming_first (λ p. belongs_to mine.entry.guest p && one p) whys.ShmTwice before) (option_or (unlike (whats.Shared id host page size owns) (find one before)) (cond owns (naming_first (λ p. one p && is_owner (what_of p)) whys.OwnerTwice before) None)) =
+    let named : naming_reasons mine.entry.guest id from size owns before ≡ option_or (naming_first (λ p. belongs_to mine.entry.guest p && one p) whys.ShmTwice before) (option_or (unlike (whats.Shared id from page size owns) (find one before)) (cond owns (naming_first (λ p. one p && is_owner (what_of p)) whys.OwnerTwice before) None)) =
     rw (twice, differs, owners) refl in
-    let landed : landing_reasons mine.entry.guest ram id mine.claims mine.pages before ≡ option_or (where_so (not (lie_in ram mine.claims)) whys.NotRam) (option_or (naming_first (λ p. not (one p) && have_common p.claims mine.claims) whys.HostOverlap before) (guest_overlap before mine)) =
-    rw (overlap, guest_overlap_is before mine) refl in
-    ap (λ (o : Option Why). option_or o (landing_reasons mine.entry.guest ram id mine.claims mine.pages before)) named
-    ∙ ap (option_or (option_or (naming_first (λ p. belongs_to mine.entry.guest p && one p) whys.ShmTwice before) (option_or (unlike (whats.Shared id host page size owns) (find one before)) (cond owns (naming_first (λ p. one p && is_owner (what_of p)) whys.OwnerTwice before) None)))) landed
-    ∙ rw is (six (naming_first (λ p. belongs_to mine.entry.guest p && one p) whys.ShmTwice before) (unlike (whats.Shared id host page size owns) (find one before)) (cond owns (naming_first (λ p. one p && is_owner (what_of p)) whys.OwnerTwice before) None)
-    (where_so (not (lie_in ram mine.claims)) whys.NotRam) (naming_first (λ p. not (one p) && have_common p.claims mine.claims) whys.HostOverlap before) (guest_overlap before mine))
+    let landed : landing_reasons mine.entry.guest host id mine.claims mine.pages before ≡ option_or (where_so (not (lie_in host.ram mine.claims)) whys.NotRam) (option_or (naming_first (λ p. not (one p) && have_common p.claims mine.claims) whys.HostOverlap before) (guest_overlap host before mine)) =
+    rw (overlap, guest_overlap_is host before mine) refl in
+    ap (λ (o : Option Why). option_or o (landing_reasons mine.entry.guest host id mine.claims mine.pages before)) named
+    ∙ ap (option_or (option_or (naming_first (λ p. belongs_to mine.entry.guest p && one p) whys.ShmTwice before) (option_or (unlike (whats.Shared id from page size owns) (find one before)) (cond owns (naming_first (λ p. one p && is_owner (what_of p)) whys.OwnerTwice before) None)))) landed
+    ∙ rw is (six (naming_first (λ p. belongs_to mine.entry.guest p && one p) whys.ShmTwice before) (unlike (whats.Shared id from page size owns) (find one before)) (cond owns (naming_first (λ p. one p && is_owner (what_of p)) whys.OwnerTwice before) None)
+    (where_so (not (lie_in host.ram mine.claims)) whys.NotRam) (naming_first (λ p. not (one p) && have_common p.claims mine.claims) whys.HostOverlap before) (guest_overlap host before mine))
 
 another_is : (mine : Passed) (number : ℕ) (p : Passed) → (is_of_other mine.entry.guest p && is_irq number (what_of p)) ≡ (of_another_guest mine p && is_irq number (what_of p))
 another_is mine number p = refl
@@ -135,8 +136,8 @@ another_is mine number p = refl
 three_irq : (a b c : Option Why) → option_or a (option_or b c) ≡ option_or a (option_or b (option_or c None))
 three_irq a b c = ap (λ (o : Option Why). option_or a (option_or b o)) (sym (or_none_last c))
 
-pub irq_reasons_are : (ram : List FrameRange) (before : List Passed) (mine : Passed) (number : ℕ) → what_of mine ≡ whats.Irq number → irq_reasons mine.entry.guest number before ≡ first_there (cross_reasons ram before mine)
-irq_reasons_are ram before mine number is = rw is (three_irq (irq_too_high before number mine) (irq_of_console before number mine) (irq_of_another before number mine))
+pub irq_reasons_are : (host : Host) (before : List Passed) (mine : Passed) (number : ℕ) → what_of mine ≡ whats.Irq number → irq_reasons mine.entry.guest number before ≡ first_there (cross_reasons host before mine)
+irq_reasons_are host before mine number is = rw is (three_irq (irq_too_high before number mine) (irq_of_console before number mine) (irq_of_another before number mine))
 
 -- the first of two, where the first is there, and where it is not
 pub first_some : (a b : Option Why) (why : Why) → Some why ≡ a → Some why ≡ option_or a b

@@ -6,6 +6,7 @@ use Rattle.dl_base.specs.declared.item.What.{What}
 use Rattle.dl_base.specs.declared.item.What.TheVariants as whats
 use Rattle.dl_base.specs.Sound.{SoundUnless}
 use Rattle.frame_alloc.specs.Frames.{AreFrameRanges}
+use Rattle.domain_bindings.specs.HostDevices.{HasUsableDevices}
 use Rattle.domain_bindings.specs.declared.domain.Domain.{Domain}
 use Rattle.domain_plan.specs.declared.described.Guest.{Guest}
 use Rattle.domain_bindings.specs.declared.host.Host.{Host}
@@ -35,8 +36,9 @@ pub record IsSoundGuest (guest : Guest) : Type 0 where
   pub head : slice_get (whats_of guest) 0 ≡ Some (head_of guest.domain)
   pub statics : sum_by static_pages (whats_of guest) ≤ 2 ^ 22
 
--- the host's memory is sorted and apart; the items are sound; and so is each guest, where no item has a reason of its own
+-- the host's memory is sorted and apart, and its devices are usable; the items are sound; and so is each guest, where no item has a reason of its own
 pub record AreRead (host : Host) (loads : List Loaded) (guests : List Guest) : Type 0 where
   pub ram : AreFrameRanges host.ram
+  pub devices : HasUsableDevices host
   pub items : AreSound (joined host loads guests)
   pub guests_sound : IsTrue (has_no_fault (joined host loads guests)) → All IsSoundGuest guests

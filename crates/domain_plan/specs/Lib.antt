@@ -13,3 +13,4 @@ pub mod PrivateTakings
 pub mod Reasons
 pub mod Refusals
 pub mod Taken
+pub mod Layouts

@@ -15,7 +15,7 @@ use Rattle.domain_plan.specs.declared.planned.GuestPlan.{GuestPlan}
 use Rattle.frame_ranges.specs.Ranges.{touched}
 use Rattle.domain_plan.specs.Entries.{joined}
 use Rattle.domain_plan.specs.Taken.{Passed, what_of, belongs_to, is_direct, pages_before, bank_pages, all_passed}
-use Rattle.domain_plan.specs.Reasons.{is_irq}
+use Rattle.domain_plan.specs.Reasons.{is_irq, layout_at}
 use Rattle.domain_plan.specs.Refusals.{Refusal, first_refused}
 use Rattle.domain_plan.specs.Draws.{Heaps, free_frames, heaps}
 use Rattle.domain_plan.specs.GuestMaps.{guest_ranges}
@@ -32,7 +32,7 @@ unless_refused None later = later
 -- the first refused item with its first reason, the requests for memory coming last; or what the guests drew and what is left
 unfoldable pub outcome : Host → List Loaded → List Guest → Result Heaps Refusal
 outcome host loads guests =
-    unless_refused (first_refused host.ram [] (joined host loads guests))
+    unless_refused (first_refused host [] (joined host loads guests))
     (heaps guests (free_frames host.ram (passed_of host loads guests)))
 
 -- what the items of a guest say, one by one
@@ -79,12 +79,13 @@ gic_of (states.Read partial) = partial.gic
 gic_of _ = 65000
 
 -- the plan of a guest that drew these frames
-pub record IsGuestPlan (passed : List Passed) (number : ℕ) (guest : Guest) (drawn : List FrameRange) (plan : GuestPlan) : Type 0 where
+pub record IsGuestPlan (host : Host) (passed : List Passed) (number : ℕ) (guest : Guest) (drawn : List FrameRange) (plan : GuestPlan) : Type 0 where
   pub guest_number : plan.number ≡ guest.domain.number
   pub path : plan.path ≡ guest.domain.path
   pub cpus : plan.cpus ≡ guest.domain.cpus
   pub console : plan.console ≡ guest.domain.console
   pub gic : plan.gic ≡ gic_of guest.partial
+  pub layout : plan.layout ≡ layout_at host passed (Some number)
   pub bootargs : plan.bootargs ≡ guest.domain.bootargs
   pub memories : plan.memories ≡ memories_of passed number guest
   pub sorted : AreMapRanges plan.ranges
@@ -95,7 +96,7 @@ pub record IsGuestPlan (passed : List Passed) (number : ℕ) (guest : Guest) (dr
   pub ports : plan.ports ≡ said_by passed number port_of
 
 -- one plan for each guest, in their order, the first of which has this number
-abbrev pub AreGuestPlans : List Passed → ℕ → List Guest → List (List FrameRange) → List GuestPlan → Type 0
-AreGuestPlans passed number (guest ∷ guests) (drawn ∷ more) (plan ∷ plans) = IsGuestPlan passed number guest drawn plan × AreGuestPlans passed (number + 1) guests more plans
-AreGuestPlans passed number [] [] [] = Unit {0}
-AreGuestPlans passed number _ _ _ = ⊥
+abbrev pub AreGuestPlans : Host → List Passed → ℕ → List Guest → List (List FrameRange) → List GuestPlan → Type 0
+AreGuestPlans host passed number (guest ∷ guests) (drawn ∷ more) (plan ∷ plans) = IsGuestPlan host passed number guest drawn plan × AreGuestPlans host passed (number + 1) guests more plans
+AreGuestPlans host passed number [] [] [] = Unit {0}
+AreGuestPlans host passed number _ _ _ = ⊥

@@ -6,6 +6,7 @@ use Rattle.dl_base.specs.declared.ranges.FrameRange.{FrameRange}
 use Rattle.dl_base.specs.declared.item.Described.{Described}
 use Rattle.dl_base.specs.declared.item.What.{What}
 use Rattle.dl_base.specs.declared.item.What.TheVariants as whats
+use Rattle.domain_bindings.specs.declared.host.Host.{Host}
 use Rattle.domain_plan.specs.declared.state.Owner.{Owner}
 use Rattle.domain_plan.specs.declared.state.State.{State}
 use Rattle.domain_plan.specs.declared.state.Taken.{Taken}
@@ -20,7 +21,7 @@ use Rattle.domain_plan.specs.declared.planned.PlanFault.{PlanFault}
 use Rattle.domain_plan.specs.declared.planned.PlanFault.TheVariants as faults
 use Rattle.domain_plan.specs.Refusals.{first_refused}
 use Rattle.dl_base.specs.Reasons.{where_so}
-use Rattle.domain_plan.specs.Reasons.{naming_first, layout, layout_pages, unlike, is_owner, is_past_spis, has_console, is_irq}
+use Rattle.domain_plan.specs.Reasons.{naming_first, layout, area_pages, layout_at, unlike, is_owner, is_past_spis, has_console, is_irq}
 use Rattle.domain_plan.specs.Entries.{Entry}
 use Rattle.frame_ranges.specs.Ranges.{cut, lie_in, have_common}
 use Rattle.std.specs.Option.{option_or}
@@ -147,11 +148,11 @@ naming_reasons guest id host size owns before =
     (if owns then naming_first (λ passed. is_region id (what_of passed) && is_owner (what_of passed)) whys.OwnerTwice before else None))
 
 -- what the host's memory and the frames and pages taken before say against it
-abbrev pub landing_reasons : Option ℕ → List FrameRange → List ℕ → List FrameRange → List FrameRange → List Passed → Option Why
-landing_reasons guest ram id claims pages before =
-    option_or (where_so (not (lie_in ram claims)) whys.NotRam)
+abbrev pub landing_reasons : Option ℕ → Host → List ℕ → List FrameRange → List FrameRange → List Passed → Option Why
+landing_reasons guest host id claims pages before =
+    option_or (where_so (not (lie_in host.ram claims)) whys.NotRam)
     (option_or (naming_first (λ passed. not (is_region id (what_of passed)) && have_common (claims_taken passed) claims) whys.HostOverlap before)
-    (overlap_in (have_common layout_pages pages) (naming_first (λ passed. have_common (pages_taken guest passed) pages) whys.GuestOverlap before)))
+    (overlap_in (have_common (area_pages (layout_at host before guest)) pages) (naming_first (λ passed. have_common (pages_taken guest passed) pages) whys.GuestOverlap before)))
 
 -- what the items before say against an interrupt
 abbrev pub irq_reasons : Option ℕ → ℕ → List Passed → Option Why
@@ -180,9 +181,9 @@ pub record IsAdded (owner : Owner) (described : Described) (takes : Takes) (old 
   pub takers : (number : ℕ) (other : Option ℕ) → first_other number other new.takers.items ≡ option_or (first_other number other old.takers.items) (if is_irq_of_other number other owner.guest described.what then Some described.item else None)
 
 -- items were passed, so the state stands for them too; or the first of them with a reason against it was named
-abbrev pub Checked : {A : Type 0} → List FrameRange → Option ℕ → List Passed → List Entry → Result A PlanFault → State → Type 0
-Checked ram guest before entries (Ok done) new = Stands guest (all_passed before entries) new × (first_refused ram before entries ≡ None)
-Checked ram guest before entries (Err fault) new = (item : Item) → (reason : Why) → fault ≡ faults.Refused item reason → first_refused ram before entries ≡ Some (item, reason)
+abbrev pub Checked : {A : Type 0} → Host → Option ℕ → List Passed → List Entry → Result A PlanFault → State → Type 0
+Checked host guest before entries (Ok done) new = Stands guest (all_passed before entries) new × (first_refused host before entries ≡ None)
+Checked host guest before entries (Err fault) new = (item : Item) → (reason : Why) → fault ≡ faults.Refused item reason → first_refused host before entries ≡ Some (item, reason)
 
 -- none of the items belongs to a guest
 abbrev pub AreOfHost : List Passed → Type 0

@@ -11,10 +11,11 @@ use Rattle.dl_base.specs.declared.item.What.TheVariants as whats
 use Rattle.dl_base.specs.declared.why.Why.{Why}
 use Rattle.dl_base.specs.declared.why.Why.TheVariants as whys
 use Rattle.dl_base.specs.declared.layout.Layout.{Layout}
-use Rattle.dl_base.specs.Layouts.{usual_layout}
 use Rattle.dl_base.specs.Reasons.{where_so}
+use Rattle.domain_bindings.specs.declared.host.Host.{Host}
 use Rattle.frame_ranges.specs.Ranges.{touched, lie_in, have_common}
-use Rattle.domain_plan.specs.Taken.{Passed, item_of, what_of, belongs_to}
+use Rattle.domain_plan.specs.Taken.{Passed, item_of, what_of, belongs_to, is_direct}
+use Rattle.domain_plan.specs.Layouts.{layout_of}
 
 -- the reason that names the first item which meets a test
 abbrev pub naming_first : (Passed → Bool) → (Item → Why) → List Passed → Option Why
@@ -53,11 +54,20 @@ host_overlap before mine = naming_first (blocks mine) whys.HostOverlap before
 abbrev pub area_pages : Layout → List FrameRange
 area_pages layout = map touched (layout.distributor ∷ layout.redistributors ∷ layout.console ∷ layout.grant ∷ [])
 
--- those of the usual layout
-abbrev pub layout_pages : List FrameRange
-layout_pages = area_pages usual_layout
+-- the item gives its guest a console, whose interrupt is 0
+abbrev pub has_console : What → Bool
+has_console (whats.Head cpus pages spis direct console) = console
+has_console _ = false
 
--- these areas, as an item that another overlaps
+-- a guest has a console
+abbrev pub is_with_console : List Passed → Option ℕ → Bool
+is_with_console before guest = list_any (λ (passed : Passed). belongs_to guest passed && has_console (what_of passed)) before
+
+-- a guest's layout, by what items say of the guest
+abbrev pub layout_at : Host → List Passed → Option ℕ → Layout
+layout_at host before guest = layout_of host (is_direct before guest) (is_with_console before guest)
+
+-- its areas, as an item that another overlaps
 abbrev pub layout : Item
 layout = record { part = parts.Layout; path = []; index = 0 }
 
@@ -65,10 +75,10 @@ layout = record { part = parts.Layout; path = []; index = 0 }
 abbrev pub fills : Passed → Passed → Bool
 fills mine passed = of_one_guest mine passed && have_common passed.pages mine.pages
 
--- GuestOverlap: the layout, or else the earliest item of the guest, that has a page of this item
-abbrev pub guest_overlap : List Passed → Passed → Option Why
-guest_overlap before mine =
-    if have_common layout_pages mine.pages then Some (whys.GuestOverlap layout) else naming_first (fills mine) whys.GuestOverlap before
+-- GuestOverlap: the guest's layout, or else the earliest item of the guest, that has a page of this item
+abbrev pub guest_overlap : Host → List Passed → Passed → Option Why
+guest_overlap host before mine =
+    if have_common (area_pages (layout_at host before mine.entry.guest)) mine.pages then Some (whys.GuestOverlap layout) else naming_first (fills mine) whys.GuestOverlap before
 
 -- the module is a device tree
 abbrev pub is_device_tree : ModuleKind → Bool
@@ -88,11 +98,6 @@ is_past_spis number _ = false
 abbrev pub irq_too_high : List Passed → ℕ → Passed → Option Why
 irq_too_high before number mine =
     where_so (list_any (λ (passed : Passed). of_one_guest mine passed && is_past_spis number (what_of passed)) before) whys.TooHigh
-
--- the item gives its guest a console, whose interrupt is 0
-abbrev pub has_console : What → Bool
-has_console (whats.Head cpus pages spis direct console) = console
-has_console _ = false
 
 -- the item is that interrupt
 abbrev pub is_irq : ℕ → What → Bool

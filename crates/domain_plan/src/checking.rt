@@ -12,7 +12,7 @@ use crate::described::{Guest, PartialState};
 use crate::passing::check_items;
 use crate::planned::PlanFault;
 use crate::state::{Owner, State};
-use dl_base::{BaseSize, Bytes, Described, FrameRange, Item, List, Loaded, Part, What, Why};
+use dl_base::{BaseSize, Bytes, Described, Item, List, Loaded, Part, What, Why};
 use domain_bindings::Host;
 use std::alloc::{AllocError, Global};
 
@@ -94,40 +94,40 @@ impl State {
 fn check_guest(
     state: &mut State,
     alloc: Global,
-    ram: &[FrameRange],
+    host: &Host,
     number: u64,
     guest: &Guest,
 ) -> Result<(), PlanFault>
-    requires sorted { AreFrameRanges ram.now }
+    requires sorted { AreFrameRanges host.now.ram }
     ensures { (last : Option ℕ) → (before : List Passed) → Stands last before state.old → list_any (belongs_to (Some number)) before ≡ false →
-        Checked ram.now (Some number) before (of_guest number (is_read guest.now.partial) (items_of guest.now)) result state.new }
+        Checked host.now (Some number) before (of_guest number (is_read guest.now.partial) (items_of guest.now)) result state.new }
 {
     state.begin_guest();
     let owner = Owner {
         guest: Some(number),
         partial_read: is_read(&guest.partial),
     };
-    check_items(state, alloc, ram, owner, guest.domain.items.as_slice())?;
-    check_items(state, alloc, ram, owner, partial_items(&guest.partial))?;
-    check_items(state, alloc, ram, owner, guest.shared.as_slice())?;
-    check_items(state, alloc, ram, owner, guest.ports.as_slice())
+    check_items(state, alloc, host, owner, guest.domain.items.as_slice())?;
+    check_items(state, alloc, host, owner, partial_items(&guest.partial))?;
+    check_items(state, alloc, host, owner, guest.shared.as_slice())?;
+    check_items(state, alloc, host, owner, guest.ports.as_slice())
 }
 
 /// Passes the items of all guests, guest by guest, or names the first of them that has a reason against it.
 fn check_guests(
     state: &mut State,
     alloc: Global,
-    ram: &[FrameRange],
+    host: &Host,
     guests: &[Guest],
 ) -> Result<(), PlanFault>
-    requires sorted { AreFrameRanges ram.now }
+    requires sorted { AreFrameRanges host.now.ram }
     ensures passed { OnOk result ((before : List Passed) → Stands None before state.old → AreOfHost before → (last : Option ℕ) × Stands last (all_passed before (guest_entries 0 guests.now)) state.new) }
-    ensures clear { OnOk result ((before : List Passed) → Stands None before state.old → AreOfHost before → first_refused ram.now before (guest_entries 0 guests.now) ≡ None) }
+    ensures clear { OnOk result ((before : List Passed) → Stands None before state.old → AreOfHost before → first_refused host.now before (guest_entries 0 guests.now) ≡ None) }
     ensures refused { IfErr result (λ fault. (before : List Passed) → Stands None before state.old → AreOfHost before → (item : Item) → (reason : Why) →
-        fault ≡ PlanFault.Refused item reason → first_refused ram.now before (guest_entries 0 guests.now) ≡ Some (item, reason)) }
+        fault ≡ PlanFault.Refused item reason → first_refused host.now before (guest_entries 0 guests.now) ≡ Some (item, reason)) }
 {
     for i in 0..guests.len() {
-        match check_guest(state, alloc, ram, i as u64, &guests[i]) {
+        match check_guest(state, alloc, host, i as u64, &guests[i]) {
             Ok(()) => {}
             Err(fault) => return Err(fault),
         }
@@ -144,12 +144,12 @@ pub(crate) fn check_all(
 ) -> Result<State, PlanFault>
     requires sorted { AreFrameRanges host.now.ram }
     ensures passed { IfOk result (λ state. (last : Option ℕ) × Stands last (passed_of host.now loads.now guests.now) state) }
-    ensures clear { OnOk result (first_refused host.now.ram [] (joined host.now loads.now guests.now) ≡ None) }
-    ensures refused { IfErr result (λ fault. (item : Item) → (reason : Why) → fault ≡ PlanFault.Refused item reason → first_refused host.now.ram [] (joined host.now loads.now guests.now) ≡ Some (item, reason)) }
+    ensures clear { OnOk result (first_refused host.now [] (joined host.now loads.now guests.now) ≡ None) }
+    ensures refused { IfErr result (λ fault. (item : Item) → (reason : Why) → fault ≡ PlanFault.Refused item reason → first_refused host.now [] (joined host.now loads.now guests.now) ≡ Some (item, reason)) }
 {
     let mut state = State::new(alloc);
     check_host(&mut state, alloc, host, loads)?;
-    check_guests(&mut state, alloc, host.ram.as_slice(), guests.as_slice())?;
+    check_guests(&mut state, alloc, host, guests.as_slice())?;
     Ok(state)
 }
 
@@ -173,15 +173,14 @@ fn check_host(
 ) -> Result<(), PlanFault>
     requires sorted { AreFrameRanges host.now.ram }
     requires new { Stands None [] state.old }
-    ensures { Checked host.now.ram None [] (of_host host.now.items ++ of_host (map load_item loads.now) ++ of_host host.now.modules) result state.new }
+    ensures { Checked host.now None [] (of_host host.now.items ++ of_host (map load_item loads.now) ++ of_host host.now.modules) result state.new }
 {
     let owner = Owner {
         guest: None,
         partial_read: false,
     };
-    let ram = host.ram.as_slice();
     let items = load_items(alloc, loads.as_slice())?;
-    check_items(state, alloc, ram, owner, host.items.as_slice())?;
-    check_items(state, alloc, ram, owner, items.as_slice())?;
-    check_items(state, alloc, ram, owner, host.modules.as_slice())
+    check_items(state, alloc, host, owner, host.items.as_slice())?;
+    check_items(state, alloc, host, owner, items.as_slice())?;
+    check_items(state, alloc, host, owner, host.modules.as_slice())
 }

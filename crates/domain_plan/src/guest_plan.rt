@@ -18,6 +18,7 @@ use crate::ordering::{in_order, joined_ranges};
 use crate::planned::GuestPlan;
 use crate::takes::BANK_SIZE;
 use dl_base::{Bytes, FrameRange, List};
+use domain_bindings::Host;
 use std::alloc::{AllocError, Global};
 use std::cmp::min;
 
@@ -112,12 +113,13 @@ fn memories_of(
 /// What a guest is to be given, by its items and by what it drew.
 pub(crate) fn guest_plan(
     alloc: Global,
+    host: &Host,
     number: u64,
     guest: &Guest,
     drawn: &[FrameRange],
 ) -> Result<GuestPlan, AllocError>
     requires { IsReady number guest.now drawn.now }
-    ensures { IfOk result (λ plan. IsGuestPlan (all_passed [] (of_guest number (is_read guest.now.partial) (items_of guest.now))) number guest.now drawn.now plan) }
+    ensures { IfOk result (λ plan. IsGuestPlan host.now (all_passed [] (of_guest number (is_read guest.now.partial) (items_of guest.now))) number guest.now drawn.now plan) }
 {
     let Given {
         state,
@@ -138,6 +140,7 @@ pub(crate) fn guest_plan(
         cpus: guest.domain.cpus,
         console: guest.domain.console,
         gic: gic_of(&guest.partial),
+        layout: state.layout(host),
         bootargs: copy_option(alloc, &guest.domain.bootargs)?,
         memories,
         ranges: List::from(ranges),

@@ -9,6 +9,7 @@ mod giving;
 mod guest_plan;
 mod irqs;
 pub mod laws;
+mod layouts;
 mod ordering;
 mod passing;
 mod planned;

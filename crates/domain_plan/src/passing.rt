@@ -15,6 +15,7 @@ use crate::state::{Owner, Region, State, Taken, Taker, Triple};
 use crate::takes::has_triple;
 use crate::takings::Takings;
 use dl_base::{BaseSize, Bytes, Described, FrameRange, Item, What, Why};
+use domain_bindings::Host;
 use frame_ranges::touched;
 use std::alloc::{AllocError, Global};
 use std::cmp::min;
@@ -279,17 +280,17 @@ pub(crate) fn takes_of(
 fn check_item(
     state: &mut State,
     alloc: Global,
-    ram: &[FrameRange],
+    host: &Host,
     owner: Owner,
     described: &Described,
 ) -> Result<(), PlanFault>
-    requires sorted { AreFrameRanges ram.now }
+    requires sorted { AreFrameRanges host.now.ram }
     requires small { state.old.static_pages ≤ 2 ^ 28 }
     ensures small { OnOk result (state.new.static_pages ≤ 2 ^ 28) }
     ensures passed { OnOk result ((before : List Passed) → Stands owner.guest before state.old → Stands owner.guest (before ++ passing before (entry_of owner described.now) ∷ []) state.new) }
-    ensures clear { OnOk result ((before : List Passed) → Stands owner.guest before state.old → why ram.now before (entry_of owner described.now) ≡ None) }
+    ensures clear { OnOk result ((before : List Passed) → Stands owner.guest before state.old → why host.now before (entry_of owner described.now) ≡ None) }
     ensures refused { IfErr result (λ fault. (before : List Passed) → Stands owner.guest before state.old → (item : Item) → (reason : Why) →
-        fault ≡ PlanFault.Refused item reason → (item ≡ described.now.item) × (why ram.now before (entry_of owner described.now) ≡ Some reason)) }
+        fault ≡ PlanFault.Refused item reason → (item ≡ described.now.item) × (why host.now before (entry_of owner described.now) ≡ Some reason)) }
 {
     if let Some(own) = &described.own {
         let item = described.item.copy(alloc)?;
@@ -297,7 +298,7 @@ fn check_item(
         return Err(PlanFault::Refused(item, reason));
     }
     let takes = takes_of(state, alloc, described)?;
-    match state.reason_against(alloc, ram, owner, described, &takes)? {
+    match state.reason_against(alloc, host, owner, described, &takes)? {
         Some(reason) => {
             let item = described.item.copy(alloc)?;
             Err(PlanFault::Refused(item, reason))
@@ -313,20 +314,20 @@ fn check_item(
 pub(crate) fn check_items(
     state: &mut State,
     alloc: Global,
-    ram: &[FrameRange],
+    host: &Host,
     owner: Owner,
     items: &[Described],
 ) -> Result<(), PlanFault>
-    requires sorted { AreFrameRanges ram.now }
+    requires sorted { AreFrameRanges host.now.ram }
     requires small { state.old.static_pages ≤ 2 ^ 28 }
     ensures small { OnOk result (state.new.static_pages ≤ 2 ^ 28) }
     ensures passed { OnOk result ((before : List Passed) → Stands owner.guest before state.old → Stands owner.guest (all_passed before (map (entry_of owner) items.now)) state.new) }
-    ensures clear { OnOk result ((before : List Passed) → Stands owner.guest before state.old → first_refused ram.now before (map (entry_of owner) items.now) ≡ None) }
+    ensures clear { OnOk result ((before : List Passed) → Stands owner.guest before state.old → first_refused host.now before (map (entry_of owner) items.now) ≡ None) }
     ensures refused { IfErr result (λ fault. (before : List Passed) → Stands owner.guest before state.old → (item : Item) → (reason : Why) →
-        fault ≡ PlanFault.Refused item reason → first_refused ram.now before (map (entry_of owner) items.now) ≡ Some (item, reason)) }
+        fault ≡ PlanFault.Refused item reason → first_refused host.now before (map (entry_of owner) items.now) ≡ Some (item, reason)) }
 {
     for described in items {
-        check_item(state, alloc, ram, owner, described)?;
+        check_item(state, alloc, host, owner, described)?;
     }
     Ok(())
 }

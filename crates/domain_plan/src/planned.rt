@@ -1,5 +1,5 @@
 // What a plan says.
-use dl_base::{Bytes, Item, List, MapRange, Why};
+use dl_base::{Bytes, Item, Layout, List, MapRange, Why};
 use frame_alloc::FramePool;
 
 /// What a guest is to be given. A page is 4,096 bytes of the guest's address space, and a frame a host page, each named
@@ -16,6 +16,8 @@ pub struct GuestPlan {
     pub console: bool,
     /// The phandle of the guest's interrupt controller.
     pub gic: u32,
+    /// Where the devices that Xen makes stand in the guest.
+    pub layout: Layout,
     /// The kernel's command line, as bytes of a property, where there is one.
     pub bootargs: Option<Bytes>,
     /// The guest's memory: first page and number of pages of each range.

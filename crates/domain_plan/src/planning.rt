@@ -4,6 +4,7 @@ ghost use Rattle.frame_alloc.specs.Frames.{AreFrames};
 ghost use Rattle.domain_plan.specs.Arguments.{AreRead};
 ghost use Rattle.domain_plan.specs.Taken.{Passed};
 ghost use Rattle.domain_plan.specs.Entries.{joined};
+ghost use Rattle.domain_plan.specs.Layouts.{IsLayout};
 ghost use Rattle.domain_plan.specs.Refusals.{first_refused};
 ghost use Rattle.domain_plan.specs.Draws.{Heaps, free_frames, heaps};
 ghost use Rattle.domain_plan.specs.Plans.{passed_of, outcome, AreGuestPlans};
@@ -26,17 +27,16 @@ fn guest_plans(
     drawn: &List<Vec<FrameRange>>,
 ) -> Result<List<GuestPlan>, AllocError>
     requires read { AreRead host.now loads.now guests.now }
-    requires clear { first_refused host.now.ram [] (joined host.now loads.now guests.now) ≡ None }
+    requires clear { first_refused host.now [] (joined host.now loads.now guests.now) ≡ None }
     requires drawn { (left : List ℕ) × (heaps guests.now (free_frames host.now.ram (passed_of host.now loads.now guests.now)) ≡ Ok (record { drawn = map (λ frames. frames.items) drawn.now; left = left })) }
-    ensures { IfOk result (λ plans. AreGuestPlans (passed_of host.now loads.now guests.now) 0 guests.now (map (λ frames. frames.items) drawn.now) plans) }
+    ensures { IfOk result (λ plans. AreGuestPlans host.now (passed_of host.now loads.now guests.now) 0 guests.now (map (λ frames. frames.items) drawn.now) plans) }
 {
-    let _ = host;
     let _ = loads;
     let guests = guests.as_slice();
     let drawn = drawn.as_slice();
     let mut plans = List::new(alloc);
     for i in 0..guests.len() {
-        let plan = guest_plan(alloc, i as u64, &guests[i], drawn[i].as_slice())?;
+        let plan = guest_plan(alloc, host, i as u64, &guests[i], drawn[i].as_slice())?;
         plans.push(plan)?;
     }
     Ok(plans)
@@ -44,7 +44,8 @@ fn guest_plans(
 
 /// What every guest is to be given, and the frames that are left. Refused comes exactly where an item of the host, a
 /// load, a module of dom0, an item of a guest or a guest's request for memory has a reason against it; it names the first
-/// such item in that order, with its first reason. Memory is want of memory. The arguments are as the readers give them.
+/// such item in that order, with its first reason. Memory is want of memory. The four areas of each guest's layout are whole
+/// pages, and no two of them meet. The arguments are as the readers give them.
 pub fn plan(
     alloc: Global,
     host: &Host,
@@ -54,7 +55,8 @@ pub fn plan(
     requires { AreRead host.now loads.now guests.now }
     ensures ascending { IfOk result (λ plan. AreFrames plan.pool.free) }
     ensures planned { IfOk result (λ plan. (heaps : Heaps) × (outcome host.now loads.now guests.now ≡ Ok heaps)
-        × (plan.pool.free ≡ heaps.left) × AreGuestPlans (passed_of host.now loads.now guests.now) 0 guests.now heaps.drawn plan.guests) }
+        × (plan.pool.free ≡ heaps.left) × AreGuestPlans host.now (passed_of host.now loads.now guests.now) 0 guests.now heaps.drawn plan.guests) }
+    ensures layouts { IfOk result (λ plan. All (λ guest. IsLayout guest.layout) plan.guests) }
     ensures refused { IfErr result (λ fault. (item : _) → (why : _) → fault ≡ PlanFault.Refused item why → outcome host.now loads.now guests.now ≡ Err (item, why)) }
 {
     let state = check_all(alloc, host, loads, guests)?;

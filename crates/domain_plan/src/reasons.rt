@@ -3,16 +3,17 @@ ghost use Rattle.std.specs.Prelude.{◌≡◌, ℕ, ◌+◌, ◌^◌, ◌≤◌,
 ghost use Rattle.std.specs.Option.{option_or};
 ghost use Rattle.dl_base.specs.declared.why.Why.TheVariants as whys;
 ghost use Rattle.frame_alloc.specs.Frames.{AreFrameRanges};
-ghost use Rattle.frame_ranges.specs.Ranges.{have_common, lie_in};
+ghost use Rattle.frame_ranges.specs.Ranges.{have_common, lie_in, touched};
 ghost use Rattle.domain_plan.specs.Taken.{Passed};
 ghost use Rattle.dl_base.specs.Reasons.{where_so};
-ghost use Rattle.domain_plan.specs.Reasons.{naming_first, layout, layout_pages, is_device_tree};
+ghost use Rattle.domain_plan.specs.Reasons.{naming_first, layout, layout_at, area_pages, is_device_tree};
 ghost use Rattle.domain_plan.specs.Refusals.{cross_reasons, first_there};
 ghost use Rattle.domain_plan.specs.PrivateStanding.{Stands, claims_taken, pages_taken, entry_of, mine_of, overlap_in};
 
 use crate::state::{Owner, State};
-use dl_base::{Bytes, Described, FrameRange, Item, ModuleKind, Part, What, Why};
-use frame_ranges::{lies_in, meets_any};
+use dl_base::{BaseSize, Bytes, Described, FrameRange, Item, Layout, ModuleKind, Part, What, Why};
+use domain_bindings::Host;
+use frame_ranges::{lies_in, meets_any, touched};
 use std::alloc::{AllocError, Global};
 
 /// The frames and pages that an item takes.
@@ -36,37 +37,28 @@ pub(crate) fn lie_in(ram: &[FrameRange], ranges: &[FrameRange]) -> bool
     true
 }
 
-/// Whether the ranges have a page of the areas that no guest may fill: distributor, redistributors, console and grant
-/// table of the usual layout.
-fn meet_layout(pages: &[FrameRange]) -> bool
-    ensures { result ≡ have_common layout_pages pages.now }
+/// Whether the ranges have a page of an area.
+fn meets_area(area: BaseSize, pages: &[FrameRange]) -> bool
+    ensures { result ≡ have_common (touched area ∷ []) pages.now }
 {
-    let distributor = FrameRange {
-        first: 0x3001,
-        count: 0x10,
-    };
-    let redistributors = FrameRange {
-        first: 0x3020,
-        count: 0x1000,
-    };
-    let console = FrameRange {
-        first: 0x22000,
-        count: 1,
-    };
-    let grant_table = FrameRange {
-        first: 0x38000,
-        count: 0x1000,
-    };
-    if meets_any(distributor, pages) {
+    meets_any(touched(area), pages)
+}
+
+/// Whether the ranges have a page of a layout's areas, which no guest may fill: distributor, redistributors, console and
+/// grant table.
+fn meet_areas(layout: &Layout, pages: &[FrameRange]) -> bool
+    ensures { result ≡ have_common (area_pages layout.now) pages.now }
+{
+    if meets_area(layout.distributor, pages) {
         return true;
     }
-    if meets_any(redistributors, pages) {
+    if meets_area(layout.redistributors, pages) {
         return true;
     }
-    if meets_any(console, pages) {
+    if meets_area(layout.console, pages) {
         return true;
     }
-    meets_any(grant_table, pages)
+    meets_area(layout.grant, pages)
 }
 
 /// PartialUnread where a guest's module is a device tree, and no partial device tree was read for the guest.
@@ -95,16 +87,17 @@ impl State {
         }
     }
 
-    /// The layout, or the earliest item of the guest, that has one of these pages.
+    /// The guest's layout, or the earliest item of the guest, that has one of these pages.
     pub(crate) fn guest_overlap(
         &self,
         alloc: Global,
+        host: &Host,
         pages: &[FrameRange],
     ) -> Result<Option<Why>, AllocError>
         ensures { IfOk result (λ why. (guest : Option ℕ) → (before : List Passed) → Stands guest before self.now →
-            why ≡ overlap_in (have_common layout_pages pages.now) (naming_first (λ passed. have_common (pages_taken guest passed) pages.now) whys.GuestOverlap before)) }
+            why ≡ overlap_in (have_common (area_pages (layout_at host.now before guest)) pages.now) (naming_first (λ passed. have_common (pages_taken guest passed) pages.now) whys.GuestOverlap before)) }
     {
-        if meet_layout(pages) {
+        if meet_areas(&self.layout(host), pages) {
             let path = Bytes::new(alloc);
             return Ok(Some(Why::GuestOverlap(Item {
                 part: Part::Layout,
@@ -122,15 +115,15 @@ impl State {
     fn land(
         &self,
         alloc: Global,
-        ram: &[FrameRange],
+        host: &Host,
         claims: &[FrameRange],
     ) -> Result<Option<Why>, AllocError>
-        requires sorted { AreFrameRanges ram.now }
+        requires sorted { AreFrameRanges host.now.ram }
         requires low { All (λ range. range.first + range.count ≤ 2 ^ 28) claims.now }
         ensures { IfOk result (λ why. (guest : Option ℕ) → (before : List Passed) → Stands guest before self.now →
-            why ≡ option_or (where_so (not (lie_in ram.now claims.now)) whys.NotRam) (naming_first (λ passed. have_common (claims_taken passed) claims.now) whys.HostOverlap before)) }
+            why ≡ option_or (where_so (not (lie_in host.now.ram claims.now)) whys.NotRam) (naming_first (λ passed. have_common (claims_taken passed) claims.now) whys.HostOverlap before)) }
     {
-        if !lie_in(ram, claims) {
+        if !lie_in(host.ram.as_slice(), claims) {
             return Ok(Some(Why::NotRam));
         }
         self.host_overlap(alloc, claims)
@@ -140,46 +133,46 @@ impl State {
     pub(crate) fn reason_against(
         &self,
         alloc: Global,
-        ram: &[FrameRange],
+        host: &Host,
         owner: Owner,
         described: &Described,
         takes: &Takes,
     ) -> Result<Option<Why>, AllocError>
-        requires sorted { AreFrameRanges ram.now }
+        requires sorted { AreFrameRanges host.now.ram }
         requires low { All (λ range. range.first + range.count ≤ 2 ^ 28) takes.now.claims.items }
         ensures { IfOk result (λ why. (before : List Passed) → Stands owner.guest before self.now →
-            why ≡ first_there (cross_reasons ram.now before (mine_of owner described.now takes.now))) }
+            why ≡ first_there (cross_reasons host.now before (mine_of owner described.now takes.now))) }
     {
         match &described.what {
-            What::Load { .. } => self.land(alloc, ram, takes.claims.as_slice()),
+            What::Load { .. } => self.land(alloc, host, takes.claims.as_slice()),
             What::Module { kind, .. } => {
-                match self.land(alloc, ram, takes.claims.as_slice())? {
+                match self.land(alloc, host, takes.claims.as_slice())? {
                     Some(why) => Ok(Some(why)),
                     None => Ok(partial_unread(owner, *kind)),
                 }
             }
             What::Static { .. } => {
-                match self.land(alloc, ram, takes.claims.as_slice())? {
+                match self.land(alloc, host, takes.claims.as_slice())? {
                     Some(why) => Ok(Some(why)),
-                    None => self.guest_overlap(alloc, takes.pages.as_slice()),
+                    None => self.guest_overlap(alloc, host, takes.pages.as_slice()),
                 }
             }
             What::Range { .. } => {
                 match self.host_overlap(alloc, takes.claims.as_slice())? {
                     Some(why) => Ok(Some(why)),
-                    None => self.guest_overlap(alloc, takes.pages.as_slice()),
+                    None => self.guest_overlap(alloc, host, takes.pages.as_slice()),
                 }
             }
             What::Irq { number } => self.irq_reason(alloc, owner, *number),
             What::Shared {
                 id,
-                host,
+                host: base,
                 size,
                 owner: owns,
                 ..
-            } => match self.region_named(alloc, owner, id.as_slice(), *host, *size, *owns)? {
+            } => match self.region_named(alloc, owner, id.as_slice(), *base, *size, *owns)? {
                 Some(why) => Ok(Some(why)),
-                None => self.region_lands(alloc, ram, id.as_slice(), takes),
+                None => self.region_lands(alloc, host, id.as_slice(), takes),
             },
             _ => Ok(None),
         }

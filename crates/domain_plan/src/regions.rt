@@ -14,6 +14,7 @@ use crate::reasons::{Takes, lie_in};
 use crate::state::{Owner, Region, State, Taken};
 use crate::takings::Takings;
 use dl_base::{FrameRange, Item, Why};
+use domain_bindings::Host;
 use frame_ranges::meets_any;
 use std::alloc::{AllocError, Global};
 
@@ -280,20 +281,20 @@ impl State {
     pub(crate) fn region_lands(
         &self,
         alloc: Global,
-        ram: &[FrameRange],
+        host: &Host,
         id: &[u8],
         takes: &Takes,
     ) -> Result<Option<Why>, AllocError>
-        requires sorted { AreFrameRanges ram.now }
+        requires sorted { AreFrameRanges host.now.ram }
         requires low { All (λ range. range.first + range.count ≤ 2 ^ 28) takes.now.claims.items }
-        ensures { IfOk result (λ why. (guest : Option ℕ) → (before : List Passed) → Stands guest before self.now → why ≡ landing_reasons guest ram.now id.now takes.now.claims.items takes.now.pages.items before) }
+        ensures { IfOk result (λ why. (guest : Option ℕ) → (before : List Passed) → Stands guest before self.now → why ≡ landing_reasons guest host.now id.now takes.now.claims.items takes.now.pages.items before) }
     {
-        if !lie_in(ram, takes.claims.as_slice()) {
+        if !lie_in(host.ram.as_slice(), takes.claims.as_slice()) {
             return Ok(Some(Why::NotRam));
         }
         match self.host_overlap_but(alloc, id, takes.claims.as_slice())? {
             Some(why) => Ok(Some(why)),
-            None => self.guest_overlap(alloc, takes.pages.as_slice()),
+            None => self.guest_overlap(alloc, host, takes.pages.as_slice()),
         }
     }
 }

@@ -90,25 +90,25 @@ copies-other : (partial : Option Tree) (wanted : Bytes) → bytes_eq (codes "pas
 copies-other partial wanted p a s =
     first_with-before wanted (copied partial (codes "/passthrough")) _ (copied-other partial (codes "/passthrough") (codes "passthrough") wanted refl refl p) ∙ (first_with-before wanted (copied partial (codes "/aliases")) _ (copied-other partial (codes "/aliases") (codes "aliases") wanted refl refl a) ∙ first_with-before wanted (copied partial (codes "/__symbols__")) [] (copied-other partial (codes "/__symbols__") (codes "__symbols__") wanted refl refl s))
 
-names_found : (layout : Layout) (plan : GuestPlan) (partial : Option Tree) (path name : Bytes) → components path ≡ Some (name ∷ []) → bytes_eq name [] ≡ false → node_found (guest_tree layout plan partial) path ≡ first_with name (machine_nodes layout plan ++ copies partial)
+names_found : (plan : GuestPlan) (partial : Option Tree) (path name : Bytes) → components path ≡ Some (name ∷ []) → bytes_eq name [] ≡ false → node_found (guest_tree plan partial) path ≡ first_with name (machine_nodes plan.layout plan ++ copies partial)
 unfolding guest_tree
-names_found layout plan partial path name one some =
-    node_found-child (guest_tree layout plan partial) path name one some ∙ ap (first_with name) (list-of-trees (machine_nodes layout plan ++ copies partial))
+names_found plan partial path name one some =
+    node_found-child (guest_tree plan partial) path name one some ∙ ap (first_with name) (list-of-trees (machine_nodes plan.layout plan ++ copies partial))
 
 -- `/passthrough` is the copy
-pub passthrough-found : (layout : Layout) (plan : GuestPlan) (partial : Option Tree) → node_found (guest_tree layout plan partial) (codes "/passthrough") ≡ option_map cleaned (found_in partial (codes "/passthrough"))
-passthrough-found layout plan partial =
+pub passthrough-found : (plan : GuestPlan) (partial : Option Tree) → node_found (guest_tree plan partial) (codes "/passthrough") ≡ option_map cleaned (found_in partial (codes "/passthrough"))
+passthrough-found plan partial =
     let name : Bytes = codes "passthrough" in
-    names_found layout plan partial (codes "/passthrough") name refl refl ∙ (first_with-before name (machine_nodes layout plan) (copies partial) (first_with-before name (to_regions layout plan) (port_nodes plan) (first_with-before name (to_console layout plan) (region_nodes plan) (to-console-other name layout plan passthrough-other) ∙ regions-named name refl plan.shared) ∙ ports-named name refl plan.ports) ∙ copied-own partial (codes "/passthrough") name refl refl refl _ (first_with-before name (copied partial (codes "/aliases")) _ (copied-other partial (codes "/aliases") (codes "aliases") name refl refl refl) ∙ first_with-before name (copied partial (codes "/__symbols__")) [] (copied-other partial (codes "/__symbols__") (codes "__symbols__") name refl refl refl)))
+    names_found plan partial (codes "/passthrough") name refl refl ∙ (first_with-before name (machine_nodes plan.layout plan) (copies partial) (first_with-before name (to_regions plan.layout plan) (port_nodes plan) (first_with-before name (to_console plan.layout plan) (region_nodes plan) (to-console-other name plan.layout plan passthrough-other) ∙ regions-named name refl plan.shared) ∙ ports-named name refl plan.ports) ∙ copied-own partial (codes "/passthrough") name refl refl refl _ (first_with-before name (copied partial (codes "/aliases")) _ (copied-other partial (codes "/aliases") (codes "aliases") name refl refl refl) ∙ first_with-before name (copied partial (codes "/__symbols__")) [] (copied-other partial (codes "/__symbols__") (codes "__symbols__") name refl refl refl)))
 
 -- `/reserved-memory` is that of the guest's shared regions
-pub reserved-found : (layout : Layout) (plan : GuestPlan) (partial : Option Tree) → node_found (guest_tree layout plan partial) (codes "/reserved-memory") ≡ first_with (codes "reserved-memory") (region_nodes plan)
-reserved-found layout plan partial =
+pub reserved-found : (plan : GuestPlan) (partial : Option Tree) → node_found (guest_tree plan partial) (codes "/reserved-memory") ≡ first_with (codes "reserved-memory") (region_nodes plan)
+reserved-found plan partial =
     let name : Bytes = codes "reserved-memory" in
-    names_found layout plan partial (codes "/reserved-memory") name refl refl ∙ (first_with-after name (machine_nodes layout plan) (copies partial) (copies-other partial name refl refl refl) ∙ (first_with-after name (to_regions layout plan) (port_nodes plan) (ports-named name refl plan.ports) ∙ first_with-before name (to_console layout plan) (region_nodes plan) (to-console-other name layout plan reserved-other)))
+    names_found plan partial (codes "/reserved-memory") name refl refl ∙ (first_with-after name (machine_nodes plan.layout plan) (copies partial) (copies-other partial name refl refl refl) ∙ (first_with-after name (to_regions plan.layout plan) (port_nodes plan) (ports-named name refl plan.ports) ∙ first_with-before name (to_console plan.layout plan) (region_nodes plan) (to-console-other name plan.layout plan reserved-other)))
 
 -- `/static-ports` is that of its ports
-pub ports-found : (layout : Layout) (plan : GuestPlan) (partial : Option Tree) → node_found (guest_tree layout plan partial) (codes "/static-ports") ≡ first_with (codes "static-ports") (port_nodes plan)
-ports-found layout plan partial =
+pub ports-found : (plan : GuestPlan) (partial : Option Tree) → node_found (guest_tree plan partial) (codes "/static-ports") ≡ first_with (codes "static-ports") (port_nodes plan)
+ports-found plan partial =
     let name : Bytes = codes "static-ports" in
-    names_found layout plan partial (codes "/static-ports") name refl refl ∙ (first_with-after name (machine_nodes layout plan) (copies partial) (copies-other partial name refl refl refl) ∙ first_with-before name (to_regions layout plan) (port_nodes plan) (first_with-before name (to_console layout plan) (region_nodes plan) (to-console-other name layout plan ports-other) ∙ regions-named name refl plan.shared))
+    names_found plan partial (codes "/static-ports") name refl refl ∙ (first_with-after name (machine_nodes plan.layout plan) (copies partial) (copies-other partial name refl refl refl) ∙ first_with-before name (to_regions plan.layout plan) (port_nodes plan) (first_with-before name (to_console plan.layout plan) (region_nodes plan) (to-console-other name plan.layout plan ports-other) ∙ regions-named name refl plan.shared))

@@ -19,10 +19,10 @@ use Rattle.guest_fdt.specs.Described.{described}
 
 -- a guest with 512 MiB at 1 GiB, mapped directly, and nothing else
 abbrev plain_guest : GuestPlan
-plain_guest = record { number = 0; path = codes "/chosen/domU0"; cpus = 1; console = false; gic = 65000; bootargs = None; memories = (0x40000, 0x20000) ∷ []; ranges = []; spis = []; shared = []; ports = [] }
+plain_guest = record { number = 0; path = codes "/chosen/domU0"; cpus = 1; console = false; gic = 65000; layout = usual_layout; bootargs = None; memories = (0x40000, 0x20000) ∷ []; ranges = []; spis = []; shared = []; ports = [] }
 
 -- its tree, byte by byte
-plain-tree : guest_tree usual_layout plain_guest None ≡ record {
+plain-tree : guest_tree plain_guest None ≡ record {
   name = [];
   properties = ((codes "#address-cells", 0 ∷ 0 ∷ 0 ∷ 2 ∷ []) ∷ (codes "#size-cells", 0 ∷ 0 ∷ 0 ∷ 2 ∷ []) ∷ (codes "compatible", 120 ∷ 101 ∷ 110 ∷ 44 ∷ 120 ∷ 101 ∷ 110 ∷ 118 ∷ 109 ∷ 0 ∷ []) ∷ (codes "interrupt-parent", 0 ∷ 0 ∷ 253 ∷ 232 ∷ []) ∷ []);
   children = (tree (codes "chosen") []
@@ -46,7 +46,7 @@ plain-tree : guest_tree usual_layout plain_guest None ≡ record {
 unfolding digits guest_tree usual_layout root_properties chosen cpus cpu numbers psci memory interrupt_controller timer hypervisor
 plain-tree = refl
 
-plain-listed : listed (guest_tree usual_layout plain_guest None) ≡ described plain_guest None
+plain-listed : listed (guest_tree plain_guest None) ≡ described plain_guest None
 unfolding digits guest_tree usual_layout root_properties chosen cpus cpu numbers psci memory interrupt_controller timer hypervisor memories_in devices_in interrupts_in regions_in ports_in
 plain-listed = refl
 
@@ -64,10 +64,10 @@ serial_port = record {
 
 -- a guest with that port, a console, two regions and two ports
 abbrev linked_guest : GuestPlan
-linked_guest = record { number = 0; path = codes "/chosen/domU0"; cpus = 18; console = true; gic = 65000; bootargs = Some (codes "console=ttyAMA0" ++ 0 ∷ []); memories = (0x40000, 0xc0000) ∷ (0x200000, 0x1000) ∷ []; ranges = []; spis = 22 ∷ []; shared = (codes "ring", 0x60000, 0x200) ∷ (codes "b", 0x8000000, 1) ∷ []; ports = (1, 1, 5) ∷ (4095, 0xffffffff, 2) ∷ [] }
+linked_guest = record { number = 0; path = codes "/chosen/domU0"; cpus = 18; console = true; gic = 65000; layout = usual_layout; bootargs = Some (codes "console=ttyAMA0" ++ 0 ∷ []); memories = (0x40000, 0xc0000) ∷ (0x200000, 0x1000) ∷ []; ranges = []; spis = 22 ∷ []; shared = (codes "ring", 0x60000, 0x200) ∷ (codes "b", 0x8000000, 1) ∷ []; ports = (1, 1, 5) ∷ (4095, 0xffffffff, 2) ∷ [] }
 
 -- the port is copied with four of its properties
-copied-port : node_found (guest_tree usual_layout linked_guest (Some serial_port)) (codes "/passthrough/serial@ff010000") ≡ Some (record {
+copied-port : node_found (guest_tree linked_guest (Some serial_port)) (codes "/passthrough/serial@ff010000") ≡ Some (record {
   name = codes "serial@ff010000";
   properties = (codes "compatible", codes "cdns,uart-r1p8" ++ 0 ∷ [])
       ∷ (codes "reg", 0 ∷ 0 ∷ 0 ∷ 0 ∷ 255 ∷ 1 ∷ 0 ∷ 0 ∷ 0 ∷ 0 ∷ 0 ∷ 0 ∷ 0 ∷ 0 ∷ 16 ∷ 0 ∷ [])
@@ -79,7 +79,7 @@ copied-port : node_found (guest_tree usual_layout linked_guest (Some serial_port
 unfolding digits guest_tree usual_layout root_properties chosen cpus cpu numbers psci memory interrupt_controller timer hypervisor console region reserved_memory static_ports is_binding
 copied-port = refl
 
-linked-listed : listed (guest_tree usual_layout linked_guest (Some serial_port)) ≡ described linked_guest (Some serial_port)
+linked-listed : listed (guest_tree linked_guest (Some serial_port)) ≡ described linked_guest (Some serial_port)
 unfolding digits guest_tree usual_layout root_properties chosen cpus cpu numbers psci memory interrupt_controller timer hypervisor console region reserved_memory static_ports is_binding memories_in devices_in interrupts_in regions_in ports_in
 linked-listed = refl
 
@@ -87,12 +87,15 @@ linked-listed = refl
 abbrev host_layout : Layout
 host_layout = record { distributor = record { base = 0x8000000; size = 0x10000 }; redistributors = record { base = 0x80a0000; size = 0xf60000 }; console = record { base = 0xff010000; size = 0x1000 }; grant = record { base = 0x38000000; size = 0x01000000 } }
 
+abbrev direct_guest : GuestPlan
+direct_guest = record linked_guest { layout = host_layout }
+
 -- a guest with these areas has its interrupt controller and its console there
-controller-there : option_map (λ (node : Tree). property_of node.properties (codes "reg")) (node_found (guest_tree host_layout linked_guest None) (codes "/interrupt-controller@8000000")) ≡ Some (Some (0 ∷ 0 ∷ 0 ∷ 0 ∷ 8 ∷ 0 ∷ 0 ∷ 0 ∷ 0 ∷ 0 ∷ 0 ∷ 0 ∷ 0 ∷ 1 ∷ 0 ∷ 0 ∷ 0 ∷ 0 ∷ 0 ∷ 0 ∷ 8 ∷ 10 ∷ 0 ∷ 0 ∷ 0 ∷ 0 ∷ 0 ∷ 0 ∷ 0 ∷ 246 ∷ 0 ∷ 0 ∷ []))
+controller-there : option_map (λ (node : Tree). property_of node.properties (codes "reg")) (node_found (guest_tree direct_guest None) (codes "/interrupt-controller@8000000")) ≡ Some (Some (0 ∷ 0 ∷ 0 ∷ 0 ∷ 8 ∷ 0 ∷ 0 ∷ 0 ∷ 0 ∷ 0 ∷ 0 ∷ 0 ∷ 0 ∷ 1 ∷ 0 ∷ 0 ∷ 0 ∷ 0 ∷ 0 ∷ 0 ∷ 8 ∷ 10 ∷ 0 ∷ 0 ∷ 0 ∷ 0 ∷ 0 ∷ 0 ∷ 0 ∷ 246 ∷ 0 ∷ 0 ∷ []))
 unfolding digits guest_tree root_properties chosen cpus cpu numbers psci memory interrupt_controller timer hypervisor console region reserved_memory static_ports
 controller-there = refl
 
-output-there : option_map (λ (node : Tree). property_of node.properties (codes "stdout-path")) (node_found (guest_tree host_layout linked_guest None) (codes "/chosen")) ≡ Some (Some (codes "/pl011@ff010000" ++ 0 ∷ []))
+output-there : option_map (λ (node : Tree). property_of node.properties (codes "stdout-path")) (node_found (guest_tree direct_guest None) (codes "/chosen")) ≡ Some (Some (codes "/pl011@ff010000" ++ 0 ∷ []))
 unfolding digits guest_tree root_properties chosen cpus cpu numbers psci memory interrupt_controller timer hypervisor console region reserved_memory static_ports
 output-there = refl
 

@@ -1,7 +1,6 @@
 -- The devices, the shared regions and the ports that a guest's tree lists.
 use Rattle.std.proofs.Common.{◌≡◌, ◌≤◌, ◌^◌, ℕ, ◌+◌, true, List, [], ◌∷◌, ◌++◌, Option, Some, None, map, filter, flat_map, codes, refl, ap, ◌∙◌}
 use Rattle.std.specs.Prelude.{All, IsTrue, option_map}
-use Rattle.dl_base.specs.declared.layout.Layout.{Layout}
 use Rattle.domain_plan.specs.declared.planned.GuestPlan.{GuestPlan}
 use Rattle.dl_base.specs.declared.ranges.BaseSize.{BaseSize}
 use Rattle.fdt_tree.specs.Tree.{Bytes, Tree}
@@ -33,10 +32,10 @@ of_partial None = refl
 of_partial (Some t) = refl
 
 -- a guest's tree lists the devices of its partial tree, without what binds them
-pub devices-listed : (layout : Layout) (plan : GuestPlan) (partial : Option Tree) → devices_in (guest_tree layout plan partial) ≡ map cleaned_device (partial_devices partial)
+pub devices-listed : (plan : GuestPlan) (partial : Option Tree) → devices_in (guest_tree plan partial) ≡ map cleaned_device (partial_devices partial)
 unfolding devices_in
-devices-listed layout plan partial =
-    ap devices_of (passthrough-found layout plan partial) ∙ (copied_devices (found_in partial (codes "/passthrough")) ∙ ap (map cleaned_device) (of_partial partial))
+devices-listed plan partial =
+    ap devices_of (passthrough-found plan partial) ∙ (copied_devices (found_in partial (codes "/passthrough")) ∙ ap (map cleaned_device) (of_partial partial))
 
 -- a region with pages below 2^28 and a text as its id
 abbrev LiesLow : Bytes × ℕ × ℕ → Type 0
@@ -80,10 +79,10 @@ named-regions [] = refl
 named-regions (s ∷ shared) = ap (λ nodes. flat_map (regions_of (Some (2, 2))) (filter is_region nodes)) (list-of-trees (map region (s ∷ shared)))
 
 -- a guest's tree lists its shared regions
-pub regions-listed : (layout : Layout) (plan : GuestPlan) (partial : Option Tree) → All (λ (id, page, count). page + count ≤ 2 ^ 28) plan.shared → All (λ (id, page, count). IsTrue (is_text id)) plan.shared → regions_in (guest_tree layout plan partial) ≡ map (λ (id, page, count). (id, bytes_of page count)) plan.shared
+pub regions-listed : (plan : GuestPlan) (partial : Option Tree) → All (λ (id, page, count). page + count ≤ 2 ^ 28) plan.shared → All (λ (id, page, count). IsTrue (is_text id)) plan.shared → regions_in (guest_tree plan partial) ≡ map (λ (id, page, count). (id, bytes_of page count)) plan.shared
 unfolding regions_in
-regions-listed layout plan partial low plain =
-    ap found_regions (reserved-found layout plan partial) ∙ (named-regions plan.shared ∙ regions-all plan.shared low plain)
+regions-listed plan partial low plain =
+    ap found_regions (reserved-found plan partial) ∙ (named-regions plan.shared ∙ regions-all plan.shared low plain)
 
 abbrev found_ports : Option Tree → List (ℕ × ℕ × ℕ)
 found_ports found = on_some found (λ (node : Tree). triples_of node.properties (codes "ports"))
@@ -94,6 +93,6 @@ named-ports [] fit = refl
 named-ports (p ∷ ports) fit = ports-back (p ∷ ports) fit
 
 -- a guest's tree lists its ports
-pub ports-listed : (layout : Layout) (plan : GuestPlan) (partial : Option Tree) → All Fits plan.ports → ports_in (guest_tree layout plan partial) ≡ plan.ports
+pub ports-listed : (plan : GuestPlan) (partial : Option Tree) → All Fits plan.ports → ports_in (guest_tree plan partial) ≡ plan.ports
 unfolding ports_in
-ports-listed layout plan partial fit = ap found_ports (ports-found layout plan partial) ∙ named-ports plan.ports fit
+ports-listed plan partial fit = ap found_ports (ports-found plan partial) ∙ named-ports plan.ports fit

@@ -100,10 +100,10 @@ entries-all gic (m ∷ memories) low =
     ap (λ z. z ++ flat_map (root_entries gic) (map memory memories)) (entries-one gic m.0 m.1 (all-first (λ (page, count). page + count ≤ 2 ^ 28) m memories low)) ∙ ap (λ z. bytes_of m.0 m.1 ∷ z) (entries-all gic memories (all-rest (λ (page, count). page + count ≤ 2 ^ 28) m memories low))
 
 -- a guest's tree lists the guest's memory
-pub memories-listed : (layout : Layout) (plan : GuestPlan) (partial : Option Tree) → All (λ (page, count). page + count ≤ 2 ^ 28) plan.memories → IsTrue (list_all (λ path. is_no_memory (found_in partial path)) copied_paths) → memories_in (guest_tree layout plan partial) ≡ map (λ (page, count). bytes_of page count) plan.memories
+pub memories-listed : (plan : GuestPlan) (partial : Option Tree) → All (λ (page, count). page + count ≤ 2 ^ 28) plan.memories → IsTrue (list_all (λ path. is_no_memory (found_in partial path)) copied_paths) → memories_in (guest_tree plan partial) ≡ map (λ (page, count). bytes_of page count) plan.memories
 unfolding memories_in guest_tree
-memories-listed layout plan partial low plain =
-    ap (λ nodes. flat_map (root_entries plan.gic) (filter is_memory_node nodes)) (list-of-trees (machine_nodes layout plan ++ copies partial)) ∙ (ap (flat_map (root_entries plan.gic)) (filter-before is_memory_node (machine_nodes layout plan) (copies partial) (map memory plan.memories) (machine-memory layout plan) (copies-plain partial copied_paths plain)) ∙ entries-all plan.gic plan.memories low)
+memories-listed plan partial low plain =
+    ap (λ nodes. flat_map (root_entries plan.gic) (filter is_memory_node nodes)) (list-of-trees (machine_nodes plan.layout plan ++ copies partial)) ∙ (ap (flat_map (root_entries plan.gic)) (filter-before is_memory_node (machine_nodes plan.layout plan) (copies partial) (map memory plan.memories) (machine-memory plan.layout plan) (copies-plain partial copied_paths plain)) ∙ entries-all plan.gic plan.memories low)
 
 -- and its pages are those of the guest's memory
 pub pages-listed : (memories : List (ℕ × ℕ)) → flat_map pages_of (map (λ (page, count). bytes_of page count) memories) ≡ flat_map (λ (page, count). numbers page count) memories

@@ -12,6 +12,7 @@ use Rattle.fdt_nodes.specs.NodeItems.{item_of}
 use Rattle.domain_bindings.specs.Domains.{guest_nodes}
 use Rattle.domain_bindings.specs.Heads.{head_item, head_reason, head_what, is_past_limit}
 use Rattle.domain_bindings.proofs.Sound.{own-described}
+use Rattle.domain_bindings.specs.declared.host.Host.{Host}
 use Rattle.domain_plan.specs.declared.described.Guest.{Guest}
 use Rattle.domain_plan.specs.declared.planned.GuestPlan.{GuestPlan}
 use Rattle.domain_plan.specs.Arguments.{has_no_fault}
@@ -31,23 +32,23 @@ use Rattle.guest_fdt.proofs.GuestFits.{head_is_within}
 -- ---- what the plan of a guest comes from
 
 -- the guest and the frames that a plan comes from
-pub record PlanAt (passed : List Passed) (guests : List Guest) (drawn : List (List FrameRange)) (index number : ℕ) (plan : GuestPlan) : Type 0 where
+pub record PlanAt (host : Host) (passed : List Passed) (guests : List Guest) (drawn : List (List FrameRange)) (index number : ℕ) (plan : GuestPlan) : Type 0 where
   pub guest : Guest
   pub frames : List FrameRange
   pub guest_there : slice_get guests index ≡ Some guest
   pub frames_there : slice_get drawn index ≡ Some frames
-  pub is : guest_plan passed number guest frames ≡ plan
+  pub is : guest_plan host passed number guest frames ≡ plan
 
-pub plan_at : (passed : List Passed) (first index number : ℕ) (guests : List Guest) (drawn : List (List FrameRange)) (plan : GuestPlan) → first + index ≡ number → slice_get (guest_plans passed first guests drawn) index ≡ Some plan
-    → PlanAt passed guests drawn index number plan
-plan_at passed first index number [] [] plan sum there = absurd (none-some plan there)
-plan_at passed first index number [] (frames ∷ drawn) plan sum there = absurd (none-some plan there)
-plan_at passed first index number (guest ∷ guests) [] plan sum there = absurd (none-some plan there)
-plan_at passed first zero number (guest ∷ guests) (frames ∷ drawn) plan sum there =
+pub plan_at : (host : Host) (passed : List Passed) (first index number : ℕ) (guests : List Guest) (drawn : List (List FrameRange)) (plan : GuestPlan) → first + index ≡ number → slice_get (guest_plans host passed first guests drawn) index ≡ Some plan
+    → PlanAt host passed guests drawn index number plan
+plan_at host passed first index number [] [] plan sum there = absurd (none-some plan there)
+plan_at host passed first index number [] (frames ∷ drawn) plan sum there = absurd (none-some plan there)
+plan_at host passed first index number (guest ∷ guests) [] plan sum there = absurd (none-some plan there)
+plan_at host passed first zero number (guest ∷ guests) (frames ∷ drawn) plan sum there =
     let same : number ≡ first = omega arith in
-    record { guest = guest; frames = frames; guest_there = refl; frames_there = refl; is = ap (λ n. guest_plan passed n guest frames) same ∙ same_Some (guest_plan passed first guest frames) plan there }
-plan_at passed first (suc index) number (guest ∷ guests) (frames ∷ drawn) plan sum there =
-    let later = plan_at passed (first + 1) index number guests drawn plan (omega arith) there in
+    record { guest = guest; frames = frames; guest_there = refl; frames_there = refl; is = ap (λ n. guest_plan host passed n guest frames) same ∙ same_Some (guest_plan host passed first guest frames) plan there }
+plan_at host passed first (suc index) number (guest ∷ guests) (frames ∷ drawn) plan sum there =
+    let later = plan_at host passed (first + 1) index number guests drawn plan (omega arith) there in
     record { guest = later.guest; frames = later.frames; guest_there = later.guest_there; frames_there = later.frames_there; is = later.is }
 
 -- the node of a guest
@@ -127,7 +128,7 @@ front_of description = (of_host (host_of description).items ++ of_host (map load
 pub record IsPlanned (description : Description) (plan : TreePlan) : Type 0 where
   pub heaps : Heaps
   pub drew : outcome (host_of description) description.loads (guests_of description) ≡ Ok heaps
-  pub guests : guest_plans (items_in description) 0 (guests_of description) heaps.drawn ≡ plan.guests
+  pub guests : guest_plans (host_of description) (items_in description) 0 (guests_of description) heaps.drawn ≡ plan.guests
   pub clear : has_no_fault (joined (host_of description) description.loads (guests_of description)) ≡ true
 
 pub is_planned : (description : Description) (plan : TreePlan) → plan_of description ≡ Ok plan → IsPlanned description plan
@@ -137,13 +138,13 @@ is_planned description plan is = by (outcome (host_of description) description.l
     by : (o : Result Heaps Refusal) → outcome (host_of description) description.loads (guests_of description) ≡ o → plan_from description o ≡ Ok plan → IsPlanned description plan
     by (Err refusal) drew same = absurd (cc)
     by (Ok heaps) drew same =
-        let given : TreePlan = record { guests = guest_plans (items_in description) 0 (guests_of description) heaps.drawn; free = heaps.left } in
+        let given : TreePlan = record { guests = guest_plans (host_of description) (items_in description) 0 (guests_of description) heaps.drawn; free = heaps.left } in
         let one : given ≡ plan = cc in
         record {
           heaps = heaps;
           drew = drew;
           guests = ap (λ (p : TreePlan). p.guests) one;
-          clear = no_own (host_of description).ram [] (joined (host_of description) description.loads (guests_of description)) (outcome_tells (host_of description) description.loads (guests_of description) heaps drew).0;
+          clear = no_own (host_of description) [] (joined (host_of description) description.loads (guests_of description)) (outcome_tells (host_of description) description.loads (guests_of description) heaps drew).0;
         }
 
 module _ (description : Description) (clear : has_no_fault (joined (host_of description) description.loads (guests_of description)) ≡ true) where
@@ -169,11 +170,11 @@ module _ (description : Description) (clear : has_no_fault (joined (host_of desc
 
 -- ---- how many guests are planned
 
-few_plans : (passed : List Passed) (number : ℕ) (guests : List Guest) (drawn : List (List FrameRange)) → length (guest_plans passed number guests drawn) ≤ length guests
-few_plans passed number [] [] = omega arith
-few_plans passed number [] (frames ∷ drawn) = omega arith
-few_plans passed number (guest ∷ guests) [] = omega arith
-few_plans passed number (guest ∷ guests) (frames ∷ drawn) = let later = few_plans passed (number + 1) guests drawn in omega arith
+few_plans : (host : Host) (passed : List Passed) (number : ℕ) (guests : List Guest) (drawn : List (List FrameRange)) → length (guest_plans host passed number guests drawn) ≤ length guests
+few_plans host passed number [] [] = omega arith
+few_plans host passed number [] (frames ∷ drawn) = omega arith
+few_plans host passed number (guest ∷ guests) [] = omega arith
+few_plans host passed number (guest ∷ guests) (frames ∷ drawn) = let later = few_plans host passed (number + 1) guests drawn in omega arith
 
 as_many_nodes : (root : Tree) (partials : List (Option Tree)) (number : ℕ) (nodes : List Node) → length (guests_from root partials number nodes) ≡ length nodes
 as_many_nodes root partials number [] = refl
@@ -186,6 +187,6 @@ few_planned description plan is =
     let planned = is_planned description plan is in
     let few = few_guests description planned.clear in
     let as_many = as_many_nodes description.root description.partials 0 (guest_nodes description.root) in
-    let plans = few_plans (items_in description) 0 (guests_of description) planned.heaps.drawn in
+    let plans = few_plans (host_of description) (items_in description) 0 (guests_of description) planned.heaps.drawn in
     let same = ap (λ (guests : List GuestPlan). length guests) planned.guests in
     omega arith

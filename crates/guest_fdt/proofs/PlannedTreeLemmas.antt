@@ -2,7 +2,6 @@
 use Rattle.std.proofs.Common.{◌≡◌, ◌∙◌, ap, sym, subst, refl, ℕ, suc, ◌^◌, ◌<◌, true, List, [], ◌∷◌, All, Option, Some, Ok, arith}
 use Rattle.std.specs.Prelude.{slice_get}
 use Rattle.std.proofs.lemmas.List.Elements.{All-cons, All-nil, All-weaker}
-use Rattle.dl_base.specs.Layouts.{usual_layout}
 use Rattle.dl_base.specs.declared.item.Described.{Described}
 use Rattle.dl_base.specs.declared.ranges.FrameRange.{FrameRange}
 use Rattle.fdt_tree.specs.Tree.{Tree}
@@ -57,11 +56,11 @@ module _ (root : Tree) (number : ℕ) (node : Node) (partial : Option Tree) (pas
     pub low : All IsLow (event_channels root)
     pub mapped : (page : ℕ) → is_listed (memories_of passed number guest) page ≡ is_ram (guest_ranges passed number frames) page
 
-  module _ (known : IsKnown) where
+  module _ (host : Host) (known : IsKnown) where
     fits : All (λ (item : Described). Fits item.what) (items_of guest)
     fits = All-cons (λ (item : Described). Fits item.what) (head_item number node) (rest_items root number node partial) (head_fits number node) (rest_fits root known.low number node partial)
 
-    pub plan_is_bounded : IsBounded (guest_plan passed number guest frames)
+    pub plan_is_bounded : IsBounded (guest_plan host passed number guest frames)
     plan_is_bounded = record {
       cpus = said_few (head_item number node).what (head_fits number node);
       memories = memories_low number guest passed known.same known.own known.made.few known.made.sound;
@@ -75,7 +74,7 @@ module _ (root : Tree) (number : ℕ) (node : Node) (partial : Option Tree) (pas
     ranges_low : AreLowRanges (guest_ranges passed number frames)
     ranges_low = subst AreLowRanges (sym (same_ranges number passed (own_passed number guest) frames known.same)) known.made.low_ranges
 
-    pub plan_is_description : IsDescription (guest_plan passed number guest frames) partial
+    pub plan_is_description : IsDescription (guest_plan host passed number guest frames) partial
     plan_is_description = record {
       bounded = plan_is_bounded;
       ports = All-weaker PortLow (λ (port : ℕ × ℕ × ℕ). (port.0 < 2 ^ 32) × (port.2 < 2 ^ 32)) (λ port low. (low.0, low.2)) _ (ports_low number guest passed known.same fits);
@@ -102,14 +101,14 @@ module _ (description : Description) (plan : TreePlan) (is : plan_of description
     pub node : Node
     pub frames : List FrameRange
     pub known : IsKnown description.root number node (partial_at description.partials number) (items_in description) frames
-    pub planned : guest_plan (items_in description) number (full description.root number node (partial_at description.partials number)) frames ≡ guest
+    pub planned : guest_plan (host_of description) (items_in description) number (full description.root number node (partial_at description.partials number)) frames ≡ guest
 
   comes_from : (number : ℕ) (guest : GuestPlan) → slice_get plan.guests number ≡ Some guest → ComesFrom number guest
   unfolding items_in
   comes_from number guest there =
       let planned = is_planned description plan is in
       let partial : Option Tree = partial_at description.partials number in
-      let at = plan_at (items_in description) 0 number number (guests_of description) planned.heaps.drawn guest (omega arith) (ap (λ (guests : List GuestPlan). slice_get guests number) planned.guests ∙ there) in
+      let at = plan_at (host_of description) (items_in description) 0 number number (guests_of description) planned.heaps.drawn guest (omega arith) (ap (λ (guests : List GuestPlan). slice_get guests number) planned.guests ∙ there) in
       let found = from_node description planned.clear number at.guest at.guest_there in
       let whole : Guest = full description.root number found.0 partial in
       let whole_there : slice_get (guests_of description) number ≡ Some whole = at.guest_there ∙ sym (ap Some found.1) in
@@ -127,19 +126,19 @@ module _ (description : Description) (plan : TreePlan) (is : plan_of description
               memory_is_mapped host description.loads (guests_of description) read planned.heaps number whole at.frames planned.drew whole_there at.frames_there
               (one_kind description.root number found.0 partial found.2);
         };
-        planned = ap (λ (one : Guest). guest_plan (items_in description) number one at.frames) found.1 ∙ at.is;
+        planned = ap (λ (one : Guest). guest_plan (host_of description) (items_in description) number one at.frames) found.1 ∙ at.is;
       }
 
   guest_is_bounded : (number : ℕ) (guest : GuestPlan) → slice_get plan.guests number ≡ Some guest → IsBounded guest
   guest_is_bounded number guest there =
       let from = comes_from number guest there in
-      subst IsBounded from.planned (plan_is_bounded description.root number from.node (partial_at description.partials number) (items_in description) from.frames from.known)
+      subst IsBounded from.planned (plan_is_bounded description.root number from.node (partial_at description.partials number) (items_in description) from.frames host from.known)
 
   guest_is_description : (number : ℕ) (guest : GuestPlan) → slice_get plan.guests number ≡ Some guest → IsDescription guest (partial_at description.partials number)
   guest_is_description number guest there =
       let from = comes_from number guest there in
       let partial : Option Tree = partial_at description.partials number in
-      subst (λ (one : GuestPlan). IsDescription one partial) from.planned (plan_is_description description.root number from.node partial (items_in description) from.frames from.known)
+      subst (λ (one : GuestPlan). IsDescription one partial) from.planned (plan_is_description description.root number from.node partial (items_in description) from.frames host from.known)
 
   each_in : (P : GuestPlan → Type 0) (guests : List GuestPlan) → ((number : ℕ) (guest : GuestPlan) → slice_get guests number ≡ Some guest → P guest) → All P guests
   each_in P [] each = All-nil P
@@ -149,4 +148,4 @@ module _ (description : Description) (plan : TreePlan) (is : plan_of description
   guests_are_bounded = each_in IsBounded plan.guests guest_is_bounded
 
   pub guests_are_listed : AllGuestsAreListed description plan
-  guests_are_listed number guest there = tree_lists_the_guest usual_layout guest (partial_at description.partials number) (guest_is_description number guest there)
+  guests_are_listed number guest there = tree_lists_the_guest guest (partial_at description.partials number) (guest_is_description number guest there)

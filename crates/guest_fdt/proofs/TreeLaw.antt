@@ -14,13 +14,13 @@ same one other m d i s p =
     ap (λ z. record one { memories = z }) m ∙ (ap (λ z. record other { devices = z; interrupts = one.interrupts; shared = one.shared; ports = one.ports }) d ∙ (ap (λ z. record other { interrupts = z; shared = one.shared; ports = one.ports }) i ∙ (ap (λ z. record other { shared = z; ports = one.ports }) s ∙ ap (λ z. record other { ports = z }) p)))
 
 pub tree_lists_the_guest : TreeListsTheGuest
-tree_lists_the_guest layout plan partial is =
-    let memories = memories-listed layout plan partial is.bounded.memories is.no_memory in
-    let devices = devices-listed layout plan partial in
+tree_lists_the_guest plan partial is =
+    let memories = memories-listed plan partial is.bounded.memories is.no_memory in
+    let devices = devices-listed plan partial in
     let interrupts = ap interrupts_in devices ∙ (interrupts-cleaned (partial_devices partial) ∙ sym is.interrupts) in
-    let shared = regions-listed layout plan partial is.bounded.shared is.ids in
-    let ports = ports-listed layout plan partial (λ k d h. ((is.ports k d h).0, is.bounded.peers k d h, (is.ports k d h).1)) in
+    let shared = regions-listed plan partial is.bounded.shared is.ids in
+    let ports = ports-listed plan partial (λ k d h. ((is.ports k d h).0, is.bounded.peers k d h, (is.ports k d h).1)) in
     record {
-      lists = same (listed (guest_tree layout plan partial)) (described plan partial) memories devices interrupts shared ports;
+      lists = same (listed (guest_tree plan partial)) (described plan partial) memories devices interrupts shared ports;
       pages = λ page. ap (λ rs. is_in (flat_map pages_of rs) page) memories ∙ (ap (λ ps. is_in ps page) (pages-listed plan.memories) ∙ is.mapped page);
     }

@@ -42,6 +42,6 @@ machine_nodes layout plan =
     ++ region_nodes plan
     ++ port_nodes plan
 
--- the tree of a guest: its machine, and what is copied from its partial tree
-unfoldable pub guest_tree : Layout → GuestPlan → Option Tree → Tree
-guest_tree layout plan partial = node [] (root_properties plan.gic) (machine_nodes layout plan ++ copies partial)
+-- the tree of a guest: its machine, whose devices stand where its layout says, and what is copied from its partial tree
+unfoldable pub guest_tree : GuestPlan → Option Tree → Tree
+guest_tree plan partial = node [] (root_properties plan.gic) (machine_nodes plan.layout plan ++ copies partial)

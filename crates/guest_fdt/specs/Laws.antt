@@ -3,7 +3,6 @@ use Rattle.std.specs.Prelude.{◌≡◌, ℕ, ◌/◌, ◌^◌, ◌<◌, ◌==�
 use Rattle.std.specs.List.{list_all}
 use Rattle.dl_base.specs.Consecutive.{numbers, is_in}
 use Rattle.dl_base.specs.declared.ranges.BaseSize.{BaseSize}
-use Rattle.dl_base.specs.declared.layout.Layout.{Layout}
 use Rattle.domain_plan.specs.declared.planned.GuestPlan.{GuestPlan}
 use Rattle.domain_plan.specs.Memories.{is_listed, is_ram}
 use Rattle.fdt_tree.specs.Tree.{Bytes, Tree}
@@ -40,10 +39,10 @@ abbrev pub pages_of : BaseSize → List ℕ
 pages_of range = numbers (range.base / 4096) (range.size / 4096)
 
 -- A reader of the guest's tree finds exactly what the description says, and the pages of the memory that it finds are those that are mapped as such.
-pub record ListsTheGuest (layout : Layout) (plan : GuestPlan) (partial : Option Tree) : Type 0 where
-  pub lists : listed (guest_tree layout plan partial) ≡ described plan partial
-  pub pages : (page : ℕ) → is_in (flat_map pages_of (listed (guest_tree layout plan partial)).memories) page ≡ is_ram plan.ranges page
+pub record ListsTheGuest (plan : GuestPlan) (partial : Option Tree) : Type 0 where
+  pub lists : listed (guest_tree plan partial) ≡ described plan partial
+  pub pages : (page : ℕ) → is_in (flat_map pages_of (listed (guest_tree plan partial)).memories) page ≡ is_ram plan.ranges page
 
 -- so it is for every guest
 abbrev pub TreeListsTheGuest : Type 0
-TreeListsTheGuest = (layout : Layout) (plan : GuestPlan) (partial : Option Tree) → IsDescription plan partial → ListsTheGuest layout plan partial
+TreeListsTheGuest = (plan : GuestPlan) (partial : Option Tree) → IsDescription plan partial → ListsTheGuest plan partial

@@ -1,6 +1,5 @@
 -- The trees of the guests of a plan: where no item of a description is refused, there are few, each can be written, and lists what is described.
 use Rattle.std.specs.Prelude.{◌≡◌, ◌≤◌, ℕ, All, Some, Ok, length, slice_get}
-use Rattle.dl_base.specs.Layouts.{usual_layout}
 use Rattle.domain_plan.specs.declared.planned.GuestPlan.{GuestPlan}
 use Rattle.tree_plan.specs.Descriptions.{Description, partial_at}
 use Rattle.tree_plan.specs.TreePlans.{TreePlan, plan_of}
@@ -18,7 +17,7 @@ PlansAreFew = (description : Description) (plan : TreePlan) → plan_of descript
 -- the tree of each guest, made with its partial tree where that was read, lists exactly what is described of the guest
 abbrev pub AllGuestsAreListed : Description → TreePlan → Type 0
 AllGuestsAreListed description plan =
-    (number : ℕ) (guest : GuestPlan) → slice_get plan.guests number ≡ Some guest → ListsTheGuest usual_layout guest (partial_at description.partials number)
+    (number : ℕ) (guest : GuestPlan) → slice_get plan.guests number ≡ Some guest → ListsTheGuest guest (partial_at description.partials number)
 
 -- so it is where no item of a description is refused
 abbrev pub TreesListTheGuests : Type 0

@@ -1,7 +1,6 @@
 // The device tree of a guest.
 ghost use Rattle.std.specs.Prelude.{◌≡◌, ◌<◌, ◌≤◌, ◌∷◌, [], length, option_map, OnOk, IfOk};
 ghost use Rattle.std.specs.Option.{option_copied};
-ghost use Rattle.dl_base.specs.Layouts.{usual_layout};
 ghost use Rattle.guest_fdt.specs.Bounds.{IsBounded};
 ghost use Rattle.guest_fdt.specs.Copies.{copies};
 ghost use Rattle.tree_parts.specs.Grown.{Grows, with_more};
@@ -12,7 +11,7 @@ ghost use Rattle.tree_parts.specs.Nodes.{trees_of};
 use crate::copies::add_copies;
 use crate::machine::{add_console, add_hypervisor, add_interrupt_controller, add_psci, add_timer};
 use crate::parts::{add_chosen, add_cpus, add_memories, add_ports, add_regions};
-use dl_base::{Layout, usual_layout};
+use dl_base::Layout;
 use domain_plan::GuestPlan;
 use fdt_tree::{NodeId, Tree};
 use std::alloc::{AllocError, Global};
@@ -130,7 +129,7 @@ fn add_partial(tree: &mut Tree, root: NodeId, partial: Option<&Tree>) -> Result<
 }
 
 /// The device tree that a guest is given: its processors, memory, interrupt controller, timer, console, shared regions and
-/// ports, and what is copied from its partial tree, where it has one, without the properties that bind a device to the
+/// ports, where the plan's layout puts the devices, and what is copied from its partial tree, where it has one, without the properties that bind a device to the
 /// host. The only error is want of memory.
 pub fn build_tree(
     alloc: Global,
@@ -138,12 +137,12 @@ pub fn build_tree(
     partial: Option<&Tree>,
 ) -> Result<Tree, AllocError>
     requires { IsBounded guest.now }
-    ensures { IfOk result (λ tree. tree.tree ≡ guest_tree usual_layout guest.now (option_map (λ d. d.tree) (option_copied partial.entry))) }
+    ensures { IfOk result (λ tree. tree.tree ≡ guest_tree guest.now (option_map (λ d. d.tree) (option_copied partial.entry))) }
 {
     let mut tree = Tree::new(alloc)?;
     let root = tree.root();
     add_root(alloc, &mut tree, root, guest.gic)?;
-    add_machine(alloc, &mut tree, root, &usual_layout(), guest)?;
+    add_machine(alloc, &mut tree, root, &guest.layout, guest)?;
     add_partial(&mut tree, root, partial)?;
     Ok(tree)
 }

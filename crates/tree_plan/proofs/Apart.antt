@@ -24,24 +24,24 @@ use Rattle.tree_plan.proofs.Determined.{AreOf, are_read, passed_same}
 abbrev IsSent : List Passed → ℕ → Option (List FrameRange) → ℕ → Target → Type 0
 IsSent passed number drawn page target = (frames : List FrameRange) × (drawn ≡ Some frames) × (target_of (guest_ranges passed number frames) page ≡ Some target)
 
-plan_sends : (passed : List Passed) (number : ℕ) (guests : List Guest) (drawn : List (List FrameRange)) (plans : List GuestPlan) → AreGuestPlans passed number guests drawn plans → (n page : ℕ) (target : Target)
+plan_sends : (host : Host) (passed : List Passed) (number : ℕ) (guests : List Guest) (drawn : List (List FrameRange)) (plans : List GuestPlan) → AreGuestPlans host passed number guests drawn plans → (n page : ℕ) (target : Target)
     → target_in plans n page ≡ Some target → IsSent passed (number + n) (slice_get drawn n) page target
-plan_sends passed number [] [] [] are n page target e = absurd (none-some target e)
-plan_sends passed number [] [] (plan ∷ plans) are n page target e = elim are [ ]
-plan_sends passed number [] (frames ∷ drawn) [] are n page target e = elim are [ ]
-plan_sends passed number [] (frames ∷ drawn) (plan ∷ plans) are n page target e = elim are [ ]
-plan_sends passed number (guest ∷ guests) [] [] are n page target e = elim are [ ]
-plan_sends passed number (guest ∷ guests) [] (plan ∷ plans) are n page target e = elim are [ ]
-plan_sends passed number (guest ∷ guests) (frames ∷ drawn) [] are n page target e = elim are [ ]
-plan_sends passed number (guest ∷ guests) (frames ∷ drawn) (plan ∷ plans) are zero page target e =
+plan_sends host passed number [] [] [] are n page target e = absurd (none-some target e)
+plan_sends host passed number [] [] (plan ∷ plans) are n page target e = elim are [ ]
+plan_sends host passed number [] (frames ∷ drawn) [] are n page target e = elim are [ ]
+plan_sends host passed number [] (frames ∷ drawn) (plan ∷ plans) are n page target e = elim are [ ]
+plan_sends host passed number (guest ∷ guests) [] [] are n page target e = elim are [ ]
+plan_sends host passed number (guest ∷ guests) [] (plan ∷ plans) are n page target e = elim are [ ]
+plan_sends host passed number (guest ∷ guests) (frames ∷ drawn) [] are n page target e = elim are [ ]
+plan_sends host passed number (guest ∷ guests) (frames ∷ drawn) (plan ∷ plans) are zero page target e =
     let here : number + 0 ≡ number = omega arith in
     (frames, refl, ap (λ (n : ℕ). target_of (guest_ranges passed n frames) page) here ∙ sym (are.0.mapped page) ∙ e)
-plan_sends passed number (guest ∷ guests) (frames ∷ drawn) (plan ∷ plans) are (suc n) page target e =
+plan_sends host passed number (guest ∷ guests) (frames ∷ drawn) (plan ∷ plans) are (suc n) page target e =
     let shift : number + 1 + n ≡ number + suc n = omega arith in
-    subst (λ (k : ℕ). IsSent passed k (slice_get drawn n) page target) shift (plan_sends passed (number + 1) guests drawn plans are.1 n page target e)
+    subst (λ (k : ℕ). IsSent passed k (slice_get drawn n) page target) shift (plan_sends host passed (number + 1) guests drawn plans are.1 n page target e)
 
 module _ (description : Description) (host : Host) (guests : List Guest) (are : AreOf description host guests) (all : Heaps) (plans : List GuestPlan) (free : List ℕ)
-    (is : outcome host description.loads guests ≡ Ok all) (of_guests : AreGuestPlans (passed_of host description.loads guests) 0 guests all.drawn plans) (left : free ≡ all.left) where
+    (is : outcome host description.loads guests ≡ Ok all) (of_guests : AreGuestPlans host (passed_of host description.loads guests) 0 guests all.drawn plans) (left : free ≡ all.left) where
   law : AreApart (passed_of host description.loads guests) all
   law = guests_are_apart host description.loads guests (are_read description host guests are) all is
 
@@ -49,7 +49,7 @@ module _ (description : Description) (host : Host) (guests : List Guest) (are : 
   sent n page target e =
       let none : 0 + n ≡ n = omega arith in
       subst (λ (k : ℕ). IsSent (passed_of host description.loads guests) k (slice_get all.drawn n) page target) none
-      (plan_sends (passed_of host description.loads guests) 0 guests all.drawn plans of_guests n page target e)
+      (plan_sends host (passed_of host description.loads guests) 0 guests all.drawn plans of_guests n page target e)
 
   pub tree_apart : ArePlannedApart (is_common description) plans free
   unfolding is_common

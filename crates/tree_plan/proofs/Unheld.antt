@@ -11,8 +11,8 @@ use Rattle.domain_plan.specs.Arguments.{AreRead, AreSound, IsSoundGuest, has_no_
 use Rattle.domain_plan.specs.Draws.{Drawn, Heaps, drawn, heaps, and_drawn, heap_item, free_frames}
 use Rattle.domain_plan.specs.Entries.{Entry, joined, of_host, of_guest, items_of, is_read, load_item, guest_entries}
 use Rattle.domain_plan.specs.Plans.{passed_of, outcome, unless_refused, IsGuestPlan, AreGuestPlans}
-use Rattle.domain_plan.specs.Refusals.{Refusal, first_refused}
-use Rattle.domain_plan.specs.Taken.{Passed, all_passed}
+use Rattle.domain_plan.specs.Refusals.{Refusal, why, or_later, first_refused}
+use Rattle.domain_plan.specs.Taken.{Passed, passing, all_passed}
 use Rattle.tree_plan.specs.PrivateHeldGuests.{unheld, unheld_host}
 
 entries_unheld : (number : ℕ) (guests : List Guest) → guest_entries number (map unheld guests) ≡ guest_entries number guests
@@ -43,20 +43,29 @@ heaps_unheld (guest ∷ guests) free = by (drawn guest.domain.pages free) (heaps
     by None later = refl
     by (Some one) later = ap (and_drawn one.frames) (later one.left)
 
+-- the reasons look at the host's memory and devices, and at no number of a node
+refused_unheld : (host : Host) (before : List Passed) (entries : List Entry) → first_refused (unheld_host host) before entries ≡ first_refused host before entries
+unfolding first_refused
+refused_unheld host before [] = refl
+refused_unheld host before (entry ∷ entries) =
+    ap (or_later entry.described.item (why host before entry)) (refused_unheld host (before ++ passing before entry ∷ []) entries)
+
 pub outcome_unheld : (host : Host) (loads : List Loaded) (guests : List Guest) → outcome (unheld_host host) loads (map unheld guests) ≡ outcome host loads guests
 unfolding outcome
 outcome_unheld host loads guests =
-    ap (λ (entries : List Entry). unless_refused (first_refused host.ram [] entries) (heaps (map unheld guests) (free_frames host.ram (all_passed [] entries)))) (joined_unheld host loads guests)
-    ∙ ap (unless_refused (first_refused host.ram [] (joined host loads guests))) (heaps_unheld guests (free_frames host.ram (passed_of host loads guests)))
+    ap (λ (entries : List Entry). unless_refused (first_refused (unheld_host host) [] entries) (heaps (map unheld guests) (free_frames host.ram (all_passed [] entries)))) (joined_unheld host loads guests)
+    ∙ ap (λ (refused : Option Refusal). unless_refused refused (heaps (map unheld guests) (free_frames host.ram (passed_of host loads guests)))) (refused_unheld host [] (joined host loads guests))
+    ∙ ap (unless_refused (first_refused host [] (joined host loads guests))) (heaps_unheld guests (free_frames host.ram (passed_of host loads guests)))
 
 -- the plans of guests are those of guests without the numbers of their nodes
-plan_unheld : (passed : List Passed) (number : ℕ) (guest : Guest) (frames : List FrameRange) (plan : GuestPlan) → IsGuestPlan passed number guest frames plan → IsGuestPlan passed number (unheld guest) frames plan
-plan_unheld passed number guest frames plan is = record {
+plan_unheld : (host : Host) (passed : List Passed) (number : ℕ) (guest : Guest) (frames : List FrameRange) (plan : GuestPlan) → IsGuestPlan host passed number guest frames plan → IsGuestPlan (unheld_host host) passed number (unheld guest) frames plan
+plan_unheld host passed number guest frames plan is = record {
   guest_number = is.guest_number;
   path = is.path;
   cpus = is.cpus;
   console = is.console;
   gic = is.gic;
+  layout = is.layout;
   bootargs = is.bootargs;
   memories = is.memories;
   sorted = is.sorted;
@@ -67,17 +76,17 @@ plan_unheld passed number guest frames plan is = record {
   ports = is.ports;
 }
 
-pub plans_unheld : (passed : List Passed) (number : ℕ) (guests : List Guest) (drawn : List (List FrameRange)) (plans : List GuestPlan) → AreGuestPlans passed number guests drawn plans
-    → AreGuestPlans passed number (map unheld guests) drawn plans
-plans_unheld passed number [] [] [] are = tt
-plans_unheld passed number [] [] (plan ∷ plans) are = elim are [ ]
-plans_unheld passed number [] (frames ∷ drawn) [] are = elim are [ ]
-plans_unheld passed number [] (frames ∷ drawn) (plan ∷ plans) are = elim are [ ]
-plans_unheld passed number (guest ∷ guests) [] [] are = elim are [ ]
-plans_unheld passed number (guest ∷ guests) [] (plan ∷ plans) are = elim are [ ]
-plans_unheld passed number (guest ∷ guests) (frames ∷ drawn) [] are = elim are [ ]
-plans_unheld passed number (guest ∷ guests) (frames ∷ drawn) (plan ∷ plans) are =
-    (plan_unheld passed number guest frames plan are.0, plans_unheld passed (number + 1) guests drawn plans are.1)
+pub plans_unheld : (host : Host) (passed : List Passed) (number : ℕ) (guests : List Guest) (drawn : List (List FrameRange)) (plans : List GuestPlan) → AreGuestPlans host passed number guests drawn plans
+    → AreGuestPlans (unheld_host host) passed number (map unheld guests) drawn plans
+plans_unheld host passed number [] [] [] are = tt
+plans_unheld host passed number [] [] (plan ∷ plans) are = elim are [ ]
+plans_unheld host passed number [] (frames ∷ drawn) [] are = elim are [ ]
+plans_unheld host passed number [] (frames ∷ drawn) (plan ∷ plans) are = elim are [ ]
+plans_unheld host passed number (guest ∷ guests) [] [] are = elim are [ ]
+plans_unheld host passed number (guest ∷ guests) [] (plan ∷ plans) are = elim are [ ]
+plans_unheld host passed number (guest ∷ guests) (frames ∷ drawn) [] are = elim are [ ]
+plans_unheld host passed number (guest ∷ guests) (frames ∷ drawn) (plan ∷ plans) are =
+    (plan_unheld host passed number guest frames plan are.0, plans_unheld host passed (number + 1) guests drawn plans are.1)
 
 -- and so is what a plan asks
 sound_held : (guests : List Guest) → All IsSoundGuest (map unheld guests) → All IsSoundGuest guests
@@ -89,6 +98,7 @@ sound_held (guest ∷ guests) all =
 pub read_held : (host : Host) (loads : List Loaded) (guests : List Guest) → AreRead (unheld_host host) loads (map unheld guests) → AreRead host loads guests
 read_held host loads guests read = record {
   ram = read.ram;
+  devices = record { areas = read.devices.areas; console = read.devices.console };
   items = subst AreSound (joined_unheld host loads guests) read.items;
   guests_sound = λ clear. sound_held guests (read.guests_sound (ap has_no_fault (joined_unheld host loads guests) ∙ clear));
 }

@@ -8,6 +8,7 @@ use Rattle.fdt_tree.specs.declared.reserve.Reserve.{Reserve}
 use Rattle.fdt_nodes.specs.Nodes.{Node, shown}
 use Rattle.domain_bindings.specs.Domains.{guest_nodes, domain_items, bootargs_of, partial_of, said_cpus, said_pages, said_spis, said_direct, said_console}
 use Rattle.domain_bindings.specs.Heads.{head_item, is_past_limit}
+use Rattle.domain_bindings.specs.HostDevices.{areas_of, console_of}
 use Rattle.domain_bindings.specs.Hosts.{host_items, dom0_items, ram_regions}
 use Rattle.domain_bindings.specs.Ram.{ram_frames}
 use Rattle.domain_bindings.specs.declared.domain.Domain.{Domain}
@@ -57,6 +58,8 @@ host_of description = record {
   modules = dom0_items description.root;
   ram = frames_as_ranges (ram_frames (ram_regions description.root));
   gic = None;
+  areas = areas_of description.root;
+  console = console_of description.root;
 }
 
 -- what the node of the guest with this number describes

@@ -1,6 +1,7 @@
 -- The plan of a description: what every guest is given, and the frames that are left for tables; or the first item that is refused.
-use Rattle.std.specs.Prelude.{◌≡◌, ℕ, ◌+◌, Bool, List, [], ◌∷◌, Result, Ok, Err}
+use Rattle.std.specs.Prelude.{◌≡◌, ℕ, ◌+◌, Bool, List, [], ◌∷◌, Some, Result, Ok, Err}
 use Rattle.dl_base.specs.declared.ranges.FrameRange.{FrameRange}
+use Rattle.domain_bindings.specs.declared.host.Host.{Host}
 use Rattle.domain_plan.specs.declared.described.Guest.{Guest}
 use Rattle.domain_plan.specs.declared.planned.GuestPlan.{GuestPlan}
 use Rattle.domain_plan.specs.declared.planned.PlanFault.{PlanFault}
@@ -10,18 +11,20 @@ use Rattle.domain_plan.specs.Draws.{Heaps}
 use Rattle.domain_plan.specs.GuestMaps.{guest_ranges}
 use Rattle.domain_plan.specs.MapOrder.{in_order, joined_ranges}
 use Rattle.domain_plan.specs.Plans.{passed_of, outcome, memories_of, spis_of, region_of, port_of, gic_of, said_by}
+use Rattle.domain_plan.specs.Reasons.{layout_at}
 use Rattle.domain_plan.specs.Refusals.{Refusal}
 use Rattle.domain_plan.specs.Taken.{Passed}
 use Rattle.tree_plan.specs.Descriptions.{Description, host_of, guests_of}
 
--- what a guest is given, by all items with what they take, and by the frames that it drew: its ranges by page, those that run on joined
-abbrev pub guest_plan : List Passed → ℕ → Guest → List FrameRange → GuestPlan
-guest_plan passed number guest drawn = record {
+-- what a guest is given, by the host, by all items with what they take, and by the frames that it drew: its ranges by page, those that run on joined
+abbrev pub guest_plan : Host → List Passed → ℕ → Guest → List FrameRange → GuestPlan
+guest_plan host passed number guest drawn = record {
   number = guest.domain.number;
   path = guest.domain.path;
   cpus = guest.domain.cpus;
   console = guest.domain.console;
   gic = gic_of guest.partial;
+  layout = layout_at host passed (Some number);
   bootargs = guest.domain.bootargs;
   memories = memories_of passed number guest;
   ranges = joined_ranges (in_order (guest_ranges passed number drawn));
@@ -31,9 +34,9 @@ guest_plan passed number guest drawn = record {
 }
 
 -- what guests are given, the first of which has this number
-abbrev pub guest_plans : List Passed → ℕ → List Guest → List (List FrameRange) → List GuestPlan
-guest_plans passed number (guest ∷ guests) (drawn ∷ more) = guest_plan passed number guest drawn ∷ guest_plans passed (number + 1) guests more
-guest_plans passed number _ _ = []
+abbrev pub guest_plans : Host → List Passed → ℕ → List Guest → List (List FrameRange) → List GuestPlan
+guest_plans host passed number (guest ∷ guests) (drawn ∷ more) = guest_plan host passed number guest drawn ∷ guest_plans host passed (number + 1) guests more
+guest_plans host passed number _ _ = []
 
 -- what every guest is given, and the free frames that are left
 pub record TreePlan : Type 0 where
@@ -47,7 +50,7 @@ items_in description = passed_of (host_of description) description.loads (guests
 -- the plan, where what the guests drew is known
 abbrev pub plan_from : Description → Result Heaps Refusal → Result TreePlan Refusal
 plan_from description (Err refusal) = Err refusal
-plan_from description (Ok heaps) = Ok (record { guests = guest_plans (items_in description) 0 (guests_of description) heaps.drawn; free = heaps.left })
+plan_from description (Ok heaps) = Ok (record { guests = guest_plans (host_of description) (items_in description) 0 (guests_of description) heaps.drawn; free = heaps.left })
 
 -- the plan of a description, or its first item that is refused, with the first reason against it
 unfoldable pub plan_of : Description → Result TreePlan Refusal

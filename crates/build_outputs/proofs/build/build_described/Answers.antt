@@ -1,7 +1,6 @@
 use Rattle.std.proofs.Common.{◌≡◌, ◌<◌, ◌≤◌, ◌+◌, ◌*◌, ◌^◌, ◌∙◌, ◌∷◌, sym, ap, ap₂, subst, arith, length, ℕ, List, All}
 use Rattle.std.specs.Option.{option_copied}
 use Rattle.build_report.specs.Report.{report}
-use Rattle.dl_base.specs.Layouts.{usual_layout}
 use Rattle.dl_base.specs.Outside.{File}
 use Rattle.guest_fdt.specs.Bounds.{IsBounded}
 use Rattle.guest_fdt.specs.GuestTree.{guest_tree}
@@ -96,7 +95,7 @@ returns-clause-built c =
       lists = λ number guest at.
           let listed = c.trees_list_the_guests.ensures description plan c.in-Ok.ensures.planned number guest at in
           record {
-            root = guest_tree usual_layout guest (partial_at description.partials number);
+            root = guest_tree guest (partial_at description.partials number);
             spelled = (rw c.as_slice-guests.ensures at c.in-Ok-write_trees.ensures.spelled) number guest at;
             lists = listed.lists;
             pages = listed.pages;

@@ -1,6 +1,8 @@
-use Rattle.std.proofs.Common.{sym, subst, rules}
+use Rattle.std.proofs.Common.{sym, subst, rules, Option}
+use Rattle.std.specs.Prelude.{IfSome}
 use Rattle.dl_base.specs.Sound.{AreSound}
 use Rattle.domain_bindings.proofs.Assured.{host-sound, dom0-sound}
+use Rattle.domain_bindings.proofs.HostDeviceLemmas.{AreUsable, IsUsablePage, areas-usable, console-usable}
 use Rattle.domain_bindings.proofs.RamLemmas.{AreFrameRanges-merged}
 use Rattle.domain_bindings.proofs.host.read_host.Goals as goal
 
@@ -15,3 +17,9 @@ returns-clause-sound_modules c = subst AreSound (sym c.in_ok-modules.ensures) (d
 
 pub returns-clause-apart : goal.returns-clause-apart
 returns-clause-apart c = AreFrameRanges-merged _ 0 c.in_ok-ram.ensures.merged
+
+pub returns-clause-usable : goal.returns-clause-usable
+returns-clause-usable c = record {
+  areas = subst (λ areas. IfSome areas AreUsable) (sym c.in_ok-areas.ensures) (areas-usable c.args.tree.now.tree);
+  console = subst (λ address. IfSome address IsUsablePage) (sym c.in_ok-console.ensures) (console-usable c.args.tree.now.tree);
+}

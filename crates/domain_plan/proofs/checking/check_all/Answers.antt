@@ -28,31 +28,31 @@ front_of_host host loads =
     let third : AreOfHost (all_passed (all_passed (all_passed [] items) files) modules) = fresh_host host.modules (all_passed (all_passed [] items) files) second in
     subst AreOfHost (ap (λ (passed : List Passed). all_passed passed modules) (sym (all_passed-append [] items files)) ∙ sym (all_passed-append [] (items ++ files) modules)) third
 
-then_guests : (ram : List FrameRange) (host : Host) (loads : List Loaded) (guests : List Guest) (o : Option Refusal) → first_refused ram [] (front host loads) ≡ None → first_refused ram (all_passed [] (front host loads)) (guest_entries 0 guests) ≡ o →
-    first_refused ram [] (joined host loads guests) ≡ o
+then_guests : (host : Host) (loads : List Loaded) (guests : List Guest) (o : Option Refusal) → first_refused host [] (front host loads) ≡ None → first_refused host (all_passed [] (front host loads)) (guest_entries 0 guests) ≡ o →
+    first_refused host [] (joined host loads guests) ≡ o
 unfolding front
-then_guests ram host loads guests o none later =
-    first_refused-append ram [] (front host loads) (guest_entries 0 guests)
-    ∙ ap (λ (one : Option Refusal). option_or one (first_refused ram (all_passed [] (front host loads)) (guest_entries 0 guests))) none ∙ later
+then_guests host loads guests o none later =
+    first_refused-append host [] (front host loads) (guest_entries 0 guests)
+    ∙ ap (λ (one : Option Refusal). option_or one (first_refused host (all_passed [] (front host loads)) (guest_entries 0 guests))) none ∙ later
 
-before_guests : (ram : List FrameRange) (host : Host) (loads : List Loaded) (guests : List Guest) (refusal : Refusal) → first_refused ram [] (front host loads) ≡ Some refusal → first_refused ram [] (joined host loads guests) ≡ Some refusal
+before_guests : (host : Host) (loads : List Loaded) (guests : List Guest) (refusal : Refusal) → first_refused host [] (front host loads) ≡ Some refusal → first_refused host [] (joined host loads guests) ≡ Some refusal
 unfolding front
-before_guests ram host loads guests refusal some =
-    first_refused-append ram [] (front host loads) (guest_entries 0 guests)
-    ∙ ap (λ (one : Option Refusal). option_or one (first_refused ram (all_passed [] (front host loads)) (guest_entries 0 guests))) some
+before_guests host loads guests refusal some =
+    first_refused-append host [] (front host loads) (guest_entries 0 guests)
+    ∙ ap (λ (one : Option Refusal). option_or one (first_refused host (all_passed [] (front host loads)) (guest_entries 0 guests))) some
 
 pub returns-in_err-check_host-clause-refused : goal.returns-in_err-check_host-clause-refused
 unfolding front
 returns-in_err-check_host-clause-refused c =
     let handed : c.from_residual.result ≡ Err (c.in_err-check_host.field-0.0) = search rules in
-    rw handed (λ item reason is. before_guests c.args.host.now.ram c.args.host.now c.args.loads.now c.args.guests.now (item, reason) (c.in_err-check_host.ensures item reason is))
+    rw handed (λ item reason is. before_guests c.args.host.now c.args.loads.now c.args.guests.now (item, reason) (c.in_err-check_host.ensures item reason is))
 
 pub returns-in_err-check_guests-clause-refused : goal.returns-in_err-check_guests-clause-refused
 unfolding front
 returns-in_err-check_guests-clause-refused c =
     let handed : c.from_residual-in_err-check_guests.result ≡ Err (c.in_err-check_guests.field-0.0) = search rules in
-    rw handed (λ item reason is. then_guests c.args.host.now.ram c.args.host.now c.args.loads.now c.args.guests.now (Some (item, reason)) c.in_ok-check_host.ensures.1
-    (rw (sym c.as_slice.ensures, sym c.as_slice-2.ensures) (c.in_err-check_guests.ensures.refused (all_passed [] (front c.args.host.now c.args.loads.now)) c.in_ok-check_host.ensures.0 (front_of_host c.args.host.now c.args.loads.now) item reason is)))
+    rw handed (λ item reason is. then_guests c.args.host.now c.args.loads.now c.args.guests.now (Some (item, reason)) c.in_ok-check_host.ensures.1
+    (rw (sym c.as_slice.ensures) (c.in_err-check_guests.ensures.refused (all_passed [] (front c.args.host.now c.args.loads.now)) c.in_ok-check_host.ensures.0 (front_of_host c.args.host.now c.args.loads.now) item reason is)))
 
 pub returns-clause-passed : goal.returns-clause-passed
 unfolding front
@@ -60,11 +60,11 @@ returns-clause-passed c =
     let passed = c.in_ok-check_guests.ensures.passed (all_passed [] (front c.args.host.now c.args.loads.now)) c.in_ok-check_host.ensures.0 (front_of_host c.args.host.now c.args.loads.now) in (
       passed.0,
       subst (λ (all : List Passed). Stands passed.0 all c.check_guests.new.state)
-          (ap (λ (guests : List Guest). all_passed (all_passed [] (front c.args.host.now c.args.loads.now)) (guest_entries 0 guests)) c.as_slice-2.ensures ∙ sym (all_passed-append [] (front c.args.host.now c.args.loads.now) (guest_entries 0 c.args.guests.now))) passed.1,
+          (ap (λ (guests : List Guest). all_passed (all_passed [] (front c.args.host.now c.args.loads.now)) (guest_entries 0 guests)) c.as_slice.ensures ∙ sym (all_passed-append [] (front c.args.host.now c.args.loads.now) (guest_entries 0 c.args.guests.now))) passed.1,
     )
 
 pub returns-clause-clear : goal.returns-clause-clear
 unfolding front
 returns-clause-clear c =
-    then_guests c.args.host.now.ram c.args.host.now c.args.loads.now c.args.guests.now None c.in_ok-check_host.ensures.1
-    (rw (sym c.as_slice.ensures, sym c.as_slice-2.ensures) (c.in_ok-check_guests.ensures.clear (all_passed [] (front c.args.host.now c.args.loads.now)) c.in_ok-check_host.ensures.0 (front_of_host c.args.host.now c.args.loads.now)))
+    then_guests c.args.host.now c.args.loads.now c.args.guests.now None c.in_ok-check_host.ensures.1
+    (rw (sym c.as_slice.ensures) (c.in_ok-check_guests.ensures.clear (all_passed [] (front c.args.host.now c.args.loads.now)) c.in_ok-check_host.ensures.0 (front_of_host c.args.host.now c.args.loads.now)))

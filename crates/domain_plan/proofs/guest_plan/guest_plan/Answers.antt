@@ -39,6 +39,7 @@ returns c =
       cpus = refl;
       console = refl;
       gic = c.gic_of.ensures;
+      layout = c.layout.ensures (Some c.args.number) own gives.stands;
       bootargs = c.in_ok-copy_option.ensures;
       memories = c.in_ok-memories.ensures
           ∙ ap (λ (b : Bool). cond b c.in_ok-state.field-0.statics (banks_filled (pages + c.in_ok-state.field-0.state.static_pages))) gives.stands.direct

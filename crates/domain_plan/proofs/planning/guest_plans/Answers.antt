@@ -40,9 +40,9 @@ loop-i-preserved c =
     let low_drawn : c.loop-i.i < length c.as_slice-drawn.result.now = omega arith in
     let at : slice_get c.args.guests.now c.loop-i.i ≡ Some c.index-guests-i.result =
     ap (λ (xs : List Guest). slice_get xs c.loop-i.i) (sym c.as_slice-guests.ensures) ∙ item_at c.as_slice-guests.result.now c.loop-i.i c.index-guests-i.result low c.index-guests-i.is in
-    plans_next (passed_of c.args.host.now c.args.loads.now c.args.guests.now) c.as_slice-guests.result.now c.as_slice-drawn.result.now c.loop-i.i c.index-guests-i.result c.index-drawn-i.result c.as_slice.result.now c.loop-i.plans c.push.new.self c.in_ok-plan.plan
+    plans_next c.args.host.now (passed_of c.args.host.now c.args.loads.now c.args.guests.now) c.as_slice-guests.result.now c.as_slice-drawn.result.now c.loop-i.i c.index-guests-i.result c.index-drawn-i.result c.as_slice.result.now c.loop-i.plans c.push.new.self c.in_ok-plan.plan
     low low_drawn c.index-guests-i.is c.index-drawn-i.is c.as_slice.ensures.value c.in_ok-push.ensures.ok c.loop-i.invariant
-    (plan_by_own (passed_of c.args.host.now c.args.loads.now c.args.guests.now) (own_passed c.loop-i.i c.index-guests-i.result) c.loop-i.i c.index-guests-i.result c.as_slice.result.now c.in_ok-plan.plan
+    (plan_by_own c.args.host.now (passed_of c.args.host.now c.args.loads.now c.args.guests.now) (own_passed c.loop-i.i c.index-guests-i.result) c.loop-i.i c.index-guests-i.result c.as_slice.result.now c.in_ok-plan.plan
     (own_items c.args.host.now c.args.loads.now c.args.guests.now c.loop-i.i c.index-guests-i.result at) c.in_ok-plan.ensures)
 
 pub returns : goal.returns
@@ -53,6 +53,6 @@ returns c =
     let past : length c.as_slice-guests.result.now ≤ c.loop-i.i = c.loop-i-test.false in
     let past_drawn : length c.as_slice-drawn.result.now ≤ c.loop-i.i = omega arith in
     let passed = passed_of c.args.host.now c.args.loads.now c.args.guests.now in
-    subst (λ (xs : List Guest). AreGuestPlans (passed_of c.args.host.now c.args.loads.now c.args.guests.now) 0 xs (map (λ (frames : Vec FrameRange Global). frames.items) c.args.drawn.now) c.loop-i.plans) c.as_slice-guests.ensures
-    (subst (λ (xs : List (Vec FrameRange Global)). AreGuestPlans (passed_of c.args.host.now c.args.loads.now c.args.guests.now) 0 c.as_slice-guests.result.now (map (λ (frames : Vec FrameRange Global). frames.items) xs) c.loop-i.plans) c.as_slice-drawn.ensures
-    (plans_all passed c.as_slice-guests.result.now c.as_slice-drawn.result.now c.loop-i.i c.loop-i.plans past past_drawn c.loop-i.invariant))
+    subst (λ (xs : List Guest). AreGuestPlans c.args.host.now (passed_of c.args.host.now c.args.loads.now c.args.guests.now) 0 xs (map (λ (frames : Vec FrameRange Global). frames.items) c.args.drawn.now) c.loop-i.plans) c.as_slice-guests.ensures
+    (subst (λ (xs : List (Vec FrameRange Global)). AreGuestPlans c.args.host.now (passed_of c.args.host.now c.args.loads.now c.args.guests.now) 0 c.as_slice-guests.result.now (map (λ (frames : Vec FrameRange Global). frames.items) xs) c.loop-i.plans) c.as_slice-drawn.ensures
+    (plans_all c.args.host.now passed c.as_slice-guests.result.now c.as_slice-drawn.result.now c.loop-i.i c.loop-i.plans past past_drawn c.loop-i.invariant))

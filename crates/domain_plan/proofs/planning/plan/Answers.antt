@@ -7,15 +7,16 @@ use Rattle.domain_plan.specs.Entries.{joined}
 use Rattle.domain_plan.specs.Refusals.{Refusal, first_refused}
 use Rattle.domain_plan.specs.Draws.{Heaps, free_frames, heaps}
 use Rattle.domain_plan.specs.Plans.{passed_of, outcome, unless_refused}
+use Rattle.domain_plan.proofs.LayoutLemmas.{plans_laid}
 use Rattle.domain_plan.proofs.LowClaims.{all_claims_low}
 use Rattle.domain_plan.proofs.planning.plan.Goals as goal
 
 -- the outcome, where an item is refused, and where none is
-item_refused : (host : Host) (loads : List Loaded) (guests : List Guest) (refusal : Refusal) → first_refused host.ram [] (joined host loads guests) ≡ Some refusal → outcome host loads guests ≡ Err refusal
+item_refused : (host : Host) (loads : List Loaded) (guests : List Guest) (refusal : Refusal) → first_refused host [] (joined host loads guests) ≡ Some refusal → outcome host loads guests ≡ Err refusal
 unfolding outcome
 item_refused host loads guests refusal some = ap (λ (o : Option Refusal). unless_refused o (heaps guests (free_frames host.ram (passed_of host loads guests)))) some
 
-none_refused : (host : Host) (loads : List Loaded) (guests : List Guest) (free : List ℕ) (o : Result Heaps Refusal) → first_refused host.ram [] (joined host loads guests) ≡ None → free ≡ free_frames host.ram (passed_of host loads guests) → heaps guests free ≡ o → outcome host loads guests ≡ o
+none_refused : (host : Host) (loads : List Loaded) (guests : List Guest) (free : List ℕ) (o : Result Heaps Refusal) → first_refused host [] (joined host loads guests) ≡ None → free ≡ free_frames host.ram (passed_of host loads guests) → heaps guests free ≡ o → outcome host loads guests ≡ o
 unfolding outcome
 none_refused host loads guests free o none is drew =
     ap (λ (one : Option Refusal). unless_refused one (heaps guests (free_frames host.ram (passed_of host loads guests)))) none ∙ ap (heaps guests) (sym is) ∙ drew
@@ -56,3 +57,8 @@ guest_plans-requires-clause-drawn c =
       c.draw_for_guests.new.pool.free,
       ap (heaps c.args.guests.now) (sym free) ∙ ap (λ (guests : List Guest). heaps guests c.in_ok-pool.pool.free) (sym c.as_slice-2.ensures) ∙ c.in_ok-drawn.ensures.drawn,
     )
+
+pub returns-clause-layouts : goal.returns-clause-layouts
+returns-clause-layouts c =
+    plans_laid c.args.host.now c.requires.devices (passed_of c.args.host.now c.args.loads.now c.args.guests.now) 0 c.args.guests.now
+    (map (λ (frames : Vec FrameRange Global). frames.items) c.in_ok-drawn.drawn) c.in_ok-guests.guests c.in_ok-guests.ensures

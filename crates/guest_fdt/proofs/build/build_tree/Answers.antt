@@ -1,7 +1,5 @@
 use Rattle.std.proofs.Common.{◌<◌, ◌++◌, sym, option_map, length, subst}
 use Rattle.std.specs.Option.{option_copied}
-use Rattle.dl_base.specs.Layouts.{usual_layout}
-use Rattle.dl_base.specs.declared.layout.Layout.{Layout}
 use Rattle.fdt_tree.specs.Document.{Document}
 use Rattle.guest_fdt.specs.Copies.{copies}
 use Rattle.tree_parts.specs.Grown.{Grows}
@@ -19,5 +17,5 @@ returns c =
     let given = c.add_root.new.tree in
     let more = copies (option_map (λ (d : Document). d.tree) (option_copied c.args.partial)) in
     let live : root < length given.places = subst (λ (d : Document). root < length d.places) (sym c.in_ok-add_root.ensures) c.root-root.ensures.live in
-    let machine : Grows given c.add_machine.new.tree root (trees_of (machine_nodes usual_layout guest)) = subst (λ (l : Layout). Grows given c.add_machine.new.tree root (trees_of (machine_nodes l guest))) c.usual_layout.ensures c.in_ok-add_machine.ensures in
-    built c.in_ok-tree.tree given c.add_partial.new.tree root (root_properties guest.gic) (machine_nodes usual_layout guest ++ more) c.in_ok-tree.ensures c.root-root.ensures.place c.in_ok-add_root.ensures (Grows-both given c.add_machine.new.tree c.add_partial.new.tree root (machine_nodes usual_layout guest) more live machine c.in_ok-add_partial.ensures)
+    let nodes = machine_nodes guest.layout guest in
+    built c.in_ok-tree.tree given c.add_partial.new.tree root (root_properties guest.gic) (nodes ++ more) c.in_ok-tree.ensures c.root-root.ensures.place c.in_ok-add_root.ensures (Grows-both given c.add_machine.new.tree c.add_partial.new.tree root nodes more live c.in_ok-add_machine.ensures c.in_ok-add_partial.ensures)

@@ -6,7 +6,7 @@ use Rattle.dl_base.specs.declared.why.Why.{Why}
 use Rattle.dl_base.specs.declared.why.Why.TheVariants as whys
 use Rattle.frame_ranges.specs.Ranges.{lie_in, have_common}
 use Rattle.domain_plan.specs.Taken.{what_of}
-use Rattle.domain_plan.specs.Reasons.{naming_first, layout_pages}
+use Rattle.domain_plan.specs.Reasons.{naming_first, area_pages, layout_at}
 use Rattle.domain_plan.specs.PrivateStanding.{claims_taken, pages_taken, overlap_in, is_region}
 use Rattle.domain_plan.proofs.RegionLemmas.{lands_last}
 use Rattle.domain_plan.proofs.state.State.region_lands.Goals as goal
@@ -17,11 +17,11 @@ returns-in-None c = IfOk-weaker c.guest_overlap.result _ _
     let claims = c.args.takes.now.claims.items in
     let pages = c.args.takes.now.pages.items in
     let others : Option Why = naming_first (λ passed. not (is_region c.args.id.now (what_of passed)) && have_common (claims_taken passed) claims) whys.HostOverlap before in
-    let fills : Option Why = overlap_in (have_common layout_pages pages) (naming_first (λ passed. have_common (pages_taken guest passed) pages) whys.GuestOverlap before) in
-    let covered : lie_in c.args.ram.now claims ≡ true = rw (sym c.as_slice.ensures.value) (sym c.lie_in.ensures ∙ c.if-not-lie_in.false) in
-    let none : None ≡ others = sym c.in-None.is ∙ rw (sym c.as_slice-2.ensures.value) (c.in_ok-why.ensures guest before stands) in
+    let fills : Option Why = overlap_in (have_common (area_pages (layout_at c.args.host.now before guest)) pages) (naming_first (λ passed. have_common (pages_taken guest passed) pages) whys.GuestOverlap before) in
+    let covered : lie_in c.args.host.now.ram claims ≡ true = rw (sym c.as_slice.ensures, sym c.as_slice-2.ensures.value) (sym c.lie_in.ensures ∙ c.if-not-lie_in.false) in
+    let none : None ≡ others = sym c.in-None.is ∙ rw (sym c.as_slice-3.ensures.value) (c.in_ok-why.ensures guest before stands) in
     let same : why ≡ fills = rw (sym c.as_slice-in-None.ensures.value) (told guest before stands) in
-    lands_last (lie_in c.args.ram.now claims) whys.NotRam others fills why covered none same)
+    lands_last (lie_in c.args.host.now.ram claims) whys.NotRam others fills why covered none same)
     c.guest_overlap.ensures
 
 -- where the frames are memory, an overlap comes first
@@ -33,7 +33,7 @@ returns-in-Some c guest before stands =
     let claims = c.args.takes.now.claims.items in
     let pages = c.args.takes.now.pages.items in
     let others : Option Why = naming_first (λ passed. not (is_region c.args.id.now (what_of passed)) && have_common (claims_taken passed) claims) whys.HostOverlap before in
-    let fills : Option Why = overlap_in (have_common layout_pages pages) (naming_first (λ passed. have_common (pages_taken guest passed) pages) whys.GuestOverlap before) in
-    let covered : lie_in c.args.ram.now claims ≡ true = rw (sym c.as_slice.ensures.value) (sym c.lie_in.ensures ∙ c.if-not-lie_in.false) in
-    let some : Some c.in-Some.why ≡ others = sym c.in-Some.is ∙ rw (sym c.as_slice-2.ensures.value) (c.in_ok-why.ensures guest before stands) in
-    lands_first (lie_in c.args.ram.now claims) whys.NotRam c.in-Some.why others fills covered some
+    let fills : Option Why = overlap_in (have_common (area_pages (layout_at c.args.host.now before guest)) pages) (naming_first (λ passed. have_common (pages_taken guest passed) pages) whys.GuestOverlap before) in
+    let covered : lie_in c.args.host.now.ram claims ≡ true = rw (sym c.as_slice.ensures, sym c.as_slice-2.ensures.value) (sym c.lie_in.ensures ∙ c.if-not-lie_in.false) in
+    let some : Some c.in-Some.why ≡ others = sym c.in-Some.is ∙ rw (sym c.as_slice-3.ensures.value) (c.in_ok-why.ensures guest before stands) in
+    lands_first (lie_in c.args.host.now.ram claims) whys.NotRam c.in-Some.why others fills covered some
