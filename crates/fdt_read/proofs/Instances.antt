@@ -10,6 +10,7 @@ use Rattle.fdt_read.specs.Reservations.{reservations, pairs, before_last}
 use Rattle.fdt_read.specs.Tokens.{tokens, begin_node, end_node, property, nop, end}
 use Rattle.fdt_read.specs.Spelling.{counting, spelled_whole}
 use Rattle.fdt_read.specs.Refusals.{refusal, first_fault}
+use Rattle.fdt_read.specs.PrivateStrings.{lengths_of}
 
 words : List ℕ → Bytes
 words numbers = flat_map (to_be_bytes w32) numbers
@@ -79,3 +80,7 @@ second-refusal = refl
 -- A badly named property after a child is Name, and not Order.
 name-refusal : first_fault [] ((56, begin_node []) ∷ (64, begin_node (codes "a")) ∷ (72, end_node) ∷ (76, property None []) ∷ []) ≡ Some (Name 76)
 name-refusal = refl
+
+-- How far each byte of "ab", a NUL, and "c" without one is from the next NUL, or from the end.
+lengths : lengths_of (codes "ab" ++ 0 ∷ codes "c") ≡ 2 ∷ 1 ∷ 0 ∷ 1 ∷ []
+lengths = refl

@@ -1,6 +1,6 @@
 -- How far the names of a strings block go, and where they lie in the file.
-use Rattle.std.proofs.Common.{◌≡◌, ℕ, suc, zero, ◌+◌, ◌-◌, ◌^◌, ◌<◌, ◌≤◌, ◌==◌, Bool, true, false, cond, not, List, [], ◌∷◌, Some, None, Option, option_map, length, take, drop, get_or, refl, sym, ap, ◌∙◌, arith}
-use Rattle.std.specs.Prelude.{nat_lt, slice_range}
+use Rattle.std.proofs.Common.{◌≡◌, ℕ, suc, zero, ◌+◌, ◌-◌, ◌^◌, ◌<◌, ◌≤◌, ◌==◌, true, cond, not, List, [], ◌∷◌, Some, None, option_map, length, take, drop, get_or, refl, sym, ap, ◌∙◌, arith}
+use Rattle.std.specs.Prelude.{slice_range}
 use Rattle.std.proofs.lemmas.Bool.{lt-ltb, le-ltb}
 use Rattle.std.proofs.lemmas.List.{length-drop, length-take-le, take-take, drop-take, drop-drop}
 use Rattle.std.proofs.lemmas.List.Sums.{prefix_len-le-length}
@@ -30,12 +30,14 @@ pub measured : (file bytes : Bytes) (start size : ℕ) (lengths : List ℕ) → 
 measured file bytes start size lengths e w s k =
     let back : start + size - start ≡ size = omega arith in
     let listing : lengths ≡ lengths_of (take size (drop start file)) = k ∙ (ap (λ z. lengths_of (slice_range z start (start + size))) e ∙ ap (λ z. lengths_of (take z (drop start file))) back) in
-    let long : length lengths ≡ size = ap length listing ∙ (length-lengths (take size (drop start file)) ∙ length-take-le size (drop start file) (omega (arith, w, length-drop start file))) in
-    (long, record {
-      within = omega (arith, w, long);
-      short = omega (arith, s, long);
-      known = listing ∙ ap (λ z. lengths_of (take z (drop start file))) (sym long);
-    })
+    let long : length lengths ≡ size = ap length listing ∙ (length-lengths (take size (drop start file)) ∙ length-take-le size (drop start file) (omega (arith, w, length-drop start file))) in (
+      long,
+      record {
+        within = omega (arith, w, long);
+        short = omega (arith, s, long);
+        known = listing ∙ ap (λ z. lengths_of (take z (drop start file))) (sym long);
+      },
+    )
 
 -- A text that ends is what stands before its NUL, and one that does not end is none.
 ends : (bytes : Bytes) (n : ℕ) → n ≡ length_before_nul bytes → n < length bytes → Some (take n bytes) ≡ text bytes
