@@ -38,7 +38,7 @@ use Rattle.build_sources.specs.Scripts.{script_name}
 use Rattle.build_sources.specs.Partials.{load_at, AfterLoaded, AfterPartial, AfterPartials, described_by, partial_addresses}
 use Rattle.build_outputs.specs.Builds.{IsItemRefusal, built_of}
 use Rattle.image_audit.specs.Findings.{audit_finding, is_mapped}
-use Rattle.image_audit.specs.Audits.{image_limit, image_file, has_table, IsImageRefusal, UnlessFound, AfterImage, AfterAudit, AfterLater, AfterAudits}
+use Rattle.image_audit.specs.Audits.{image_limit, image_file, has_table, IsImageRefusal, UnlessFound, AfterAudit, AfterLater}
 use Rattle.dom0less.specs.Builds.{IsDescribedJob, IsStandJob}
 use Rattle.dom0less.specs.Checks.{IsPlanCheck, IsDescribedCheck, IsStandCheck}
 use Rattle.dom0less.specs.Generated.{generated_description}
