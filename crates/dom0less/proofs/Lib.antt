@@ -1,4 +1,5 @@
 mod OneOutcome
+mod Absences
 mod Exact
 mod Stands
 mod Checks
