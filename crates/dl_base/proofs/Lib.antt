@@ -1,4 +1,5 @@
 pub mod KeptPlaces
+pub mod Cuts
 pub mod NumberLists
 pub mod Ascending
 pub mod RegionLemmas

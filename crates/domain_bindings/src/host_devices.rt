@@ -1,5 +1,5 @@
 // Where the host's interrupt controller and its console stand.
-ghost use Rattle.std.specs.Prelude.{◌≡◌, ◌<◌, ◌==◌, IfOk, IfSome, length, option_map, position};
+ghost use Rattle.std.specs.Prelude.{◌≡◌, ◌<◌, IfOk, IfSome, length, option_map};
 ghost use Rattle.fdt_nodes.specs.Controllers.{gic_of};
 ghost use Rattle.fdt_nodes.specs.Held.{node_of};
 ghost use Rattle.domain_bindings.specs.Hosts.{reg_of};
@@ -7,7 +7,7 @@ ghost use Rattle.domain_bindings.specs.HostDevices.{areas_of, before_mark, conso
 
 use crate::reasons::{is_not_pages, is_too_high};
 use crate::statics::regions_of;
-use dl_base::{BaseSize, List};
+use dl_base::{BaseSize, List, mark_at};
 use fdt_nodes::{found, own_cells};
 use fdt_tree::{NodeId, Tree};
 use std::alloc::{AllocError, Global};
@@ -69,19 +69,11 @@ pub(crate) fn areas_of(
     }
 }
 
-/// Where the first mark stands.
-fn mark_in(bytes: &[u8], mark: u8) -> Option<usize>
-    ensures place { result ≡ position (λ byte. byte == mark) bytes.now }
-    ensures within { IfSome result (λ place. place < length bytes.now) }
-{
-    bytes.iter().position(|byte| *byte == mark)
-}
-
 /// The bytes before the first mark, where there is one.
 fn before_mark(bytes: &[u8], mark: u8) -> Option<&[u8]>
     ensures { option_map (λ text. text.now) result ≡ before_mark mark bytes.now }
 {
-    match mark_in(bytes, mark) {
+    match mark_at(bytes, mark) {
         None => None,
         Some(place) => Some(&bytes[..place]),
     }

@@ -12,7 +12,6 @@ pub mod laws;
 mod lines;
 mod merge;
 mod no_report;
-mod pieces;
 mod prepare;
 mod resolve;
 mod shift;

@@ -3,8 +3,8 @@ ghost use Rattle.std.specs.Prelude.{◌≡◌, ◌⊎◌, ◌^◌, ◌-◌, ℕ,
 ghost use Rattle.fdt_overlay.specs.Resolve.{Spot, spot_of, decimal_of, with_spot, with_string, with_strings};
 
 use crate::digits::decimal_of;
-use crate::pieces::cut;
 use crate::word_values::{ValueFault, replaced};
+use dl_base::cut;
 use fdt_tree::Tree;
 use std::alloc::Global;
 

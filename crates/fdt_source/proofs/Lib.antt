@@ -1,5 +1,4 @@
 pub mod Rows
-pub mod Cuts
 pub mod Printing
 pub mod Lined
 pub mod Bad

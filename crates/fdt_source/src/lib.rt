@@ -9,7 +9,6 @@ pub mod laws;
 mod lines;
 mod messages;
 mod opened;
-mod pieces;
 mod prepare;
 mod print;
 mod read;

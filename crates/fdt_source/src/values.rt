@@ -6,8 +6,7 @@ ghost use Rattle.fdt_tree.specs.Values.{strings};
 ghost use Rattle.fdt_source.specs.Printed.{behind_marks, is_text, are_ended_strings, quoted, words, digit_text, pair_text, strings_text, words_text, bytes_text, value_text, after_name};
 
 use crate::characters::is_shown_in_quotes;
-use crate::pieces::cut;
-use dl_base::Bytes;
+use dl_base::{Bytes, cut};
 use std::alloc::{AllocError, Global};
 
 /// Whether a value is shown as strings.

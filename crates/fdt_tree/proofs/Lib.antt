@@ -2,7 +2,6 @@ pub mod Additions
 pub mod ArenaInstances
 pub mod Chains
 pub mod Changes
-pub mod Cuts
 pub mod Edits
 pub mod Indexed
 pub mod Links
@@ -15,6 +14,7 @@ pub mod Runs
 pub mod Settings
 pub mod Siblings
 pub mod Standing
+pub mod StringLists
 pub mod Walking
 pub mod VisitLemmas
 pub mod PhandleLemmas

@@ -8,7 +8,6 @@ mod excerpt;
 mod node;
 mod node_id;
 mod phandle_map;
-mod pieces;
 mod reserve;
 mod slots;
 mod tree;

@@ -10,9 +10,8 @@ use crate::edit_fault::EditFault;
 use crate::excerpt::{Excerpt, Held};
 use crate::node::{Node, Slot, alone, link};
 use crate::node_id::NodeId;
-use crate::pieces::cut;
 use crate::slots::{end_at, find_from, follow, put_value, slot_from, slot_named};
-use dl_base::Bytes;
+use dl_base::{Bytes, cut};
 use std::alloc::{AllocError, Global};
 use std::marker::Model;
 
