@@ -14,6 +14,7 @@ item_text item = elim item.part as (λ _. List ℕ) [
   | parts.Static ↦ item.path ++ codes " static " ++ decimal item.index
   | parts.Range ↦ item.path ++ codes " range " ++ decimal item.index
   | parts.Irq ↦ item.path ++ codes " interrupt " ++ decimal item.index
+  | parts.Region ↦ item.path ++ codes " region"
   | parts.Heap ↦ item.path ++ codes " memory"
   | parts.Tables ↦ item.path ++ codes " tables"
   | parts.Layout ↦ codes "layout"

@@ -12,13 +12,18 @@ pub record AreWholePages (base size : ℕ) : Type 0 where
   pub some : 0 < size
   pub low : base + size ≤ 2 ^ 40
 
+-- a region lies in whole pages of the guest, and of the host where it has a host address
+abbrev pub IsSoundRegion : Option ℕ → ℕ → ℕ → Type 0
+IsSoundRegion None guest size = AreWholePages guest size
+IsSoundRegion (Some host) guest size = AreWholePages host size × AreWholePages guest size
+
 -- what holds of the numbers of an item without a reason of its own: 2^22 pages are 16 GiB, and a GIC has 988 shared interrupts
 abbrev pub IsSound : What → Type 0
 IsSound (whats.Head cpus pages spis direct console) = pages ≤ 2 ^ 22
 IsSound (whats.Static at) = AreWholePages at.base at.size
 IsSound (whats.Range host size guest) = AreWholePages host size × AreWholePages guest size
 IsSound (whats.Irq number) = number < 988
-IsSound (whats.Shared id host guest size owner) = AreWholePages host size × AreWholePages guest size
+IsSound (whats.Shared id host guest size owner) = IsSoundRegion host guest size
 IsSound _ = Unit {0}
 
 -- an item with a reason of its own ends what is said
