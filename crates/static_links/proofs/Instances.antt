@@ -39,6 +39,15 @@ ring name id base more rest = tree name (
     ∷ more
     ) none rest
 
+-- a region of 2 MiB at guest address 0x8000000000 whose value ends with these bytes
+abbrev short : Bytes → Trees → Trees
+short more rest = tree (codes "shm0") (
+    (codes "compatible", z (codes "xen,domain-shared-memory-v1"))
+    ∷ (codes "xen,shm-id", z (codes "ring"))
+    ∷ (codes "xen,shared-mem", (0 ∷ 0 ∷ 0 ∷ 0x80 ∷ c 0) ++ (c 0 ++ 0 ∷ 0x20 ∷ 0 ∷ 0 ∷ []) ++ more)
+    ∷ []
+    ) none rest
+
 -- an event channel node
 abbrev port : Bytes → ℕ → ℕ → ℕ → Trees → Trees
 port name phandle number other rest = tree name ((codes "compatible", z (codes "xen,evtchn-v1")) ∷ (codes "phandle", c phandle) ∷ (codes "xen,evtchn", c number ++ c other) ∷ []) none rest
@@ -59,7 +68,7 @@ abbrev domain : Tree → ℕ → Node
 domain whole number = node_at whole (0 ∷ number ∷ [])
 
 another_base : shared_items (domain (host (guest (codes "domU0") none (guest (codes "domU1") (ring (codes "shm0") (codes "ring") at_6020 [] none) none))) 1)
-    ≡ record { item = at parts.Shared (codes "/chosen/domU1/shm0"); own = None; what = whats.Shared (codes "ring") 0x60200000 0x8000000000 0x200000 false } ∷ []
+    ≡ record { item = at parts.Shared (codes "/chosen/domU1/shm0"); own = None; what = whats.Shared (codes "ring") (Some 0x60200000) 0x8000000000 0x200000 false } ∷ []
 unfolding shared_items
 another_base = refl
 
@@ -69,11 +78,22 @@ own_reasons : shared_items (domain (host (guest (codes "domU0") (
     (ring (codes "b") (codes "ring-of-16-bytes") at_6000 []
     (ring (codes "c") (codes "ring") at_6000 ((codes "role", codes "owner") ∷ []) none))
     ) none)) 0)
-    ≡ record { item = at parts.Shared (codes "/chosen/domU0/a"); own = None; what = whats.Shared (codes "ring") 0x60000000 0x8000000000 0x200000 true }
+    ≡ record { item = at parts.Shared (codes "/chosen/domU0/a"); own = None; what = whats.Shared (codes "ring") (Some 0x60000000) 0x8000000000 0x200000 true }
     ∷ record { item = at parts.Shared (codes "/chosen/domU0/b"); own = Some whys.BadValue; what = whats.Unread }
     ∷ record { item = at parts.Shared (codes "/chosen/domU0/c"); own = Some whys.BadValue; what = whats.Unread } ∷ []
 unfolding shared_items
 own_reasons = refl
+
+-- a region without a host address, and a length between the two forms
+without_host_address : shared_items (domain (host (guest (codes "domU0") (short [] none) none)) 0)
+    ≡ record { item = at parts.Shared (codes "/chosen/domU0/shm0"); own = None; what = whats.Shared (codes "ring") None 0x8000000000 0x200000 false } ∷ []
+unfolding shared_items
+without_host_address = refl
+
+between_the_forms : shared_items (domain (host (guest (codes "domU0") (short (c 0) none) none)) 0)
+    ≡ record { item = at parts.Shared (codes "/chosen/domU0/shm0"); own = Some whys.BadLength; what = whats.Unread } ∷ []
+unfolding shared_items
+between_the_forms = refl
 
 -- three guests: the first two are linked, and the third links to the second
 abbrev three : Tree

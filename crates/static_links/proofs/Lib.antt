@@ -1,5 +1,6 @@
 pub mod Instances
-pub mod Turns
-pub mod Lists
 pub mod Links
+pub mod Lists
+pub mod RegionTests
 pub mod Soundness
+pub mod Turns

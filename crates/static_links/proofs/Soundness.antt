@@ -1,5 +1,5 @@
 -- Items are sound up to the first one with a reason of its own.
-use Rattle.std.proofs.Common.{◌≡◌, refl, ℕ, ◌+◌, ◌%◌, ◌^◌, ◌<◌, ◌≤◌, List, [], ◌∷◌, ◌++◌, Some, None, true, false, Bool, arith}
+use Rattle.std.proofs.Common.{◌≡◌, ◌∙◌, refl, ℕ, ◌+◌, ◌%◌, ◌^◌, ◌<◌, ◌≤◌, List, [], ◌∷◌, ◌++◌, Some, None, true, false, Bool, arith}
 use Rattle.std.specs.Prelude.{Option, ◌==◌, ◌||◌, not, nat_lt, nat_le, is_none, unwrap_or}
 use Rattle.std.specs.Option.{option_map_or}
 use Rattle.std.proofs.lemmas.Bool.Decides.{nat_tests}
@@ -11,14 +11,15 @@ use Rattle.dl_base.specs.declared.item.What.TheVariants as whats
 use Rattle.dl_base.specs.declared.why.Why.{Why}
 use Rattle.dl_base.specs.declared.why.Why.TheVariants.{TooMany, Missing, BadValue, BadLength, NotPage, TooHigh, TooLarge}
 use Rattle.fdt_tree.specs.Tree.{Tree}
-use Rattle.fdt_nodes.specs.declared.entries.Window.{Window}
+use Rattle.static_links.specs.declared.shared.SharedRegion.{SharedRegion}
 use Rattle.fdt_nodes.specs.Nodes.{Node}
 use Rattle.dl_base.specs.Reasons.{where_so, first_reason, described, is_not_page, is_too_high, is_too_large}
 use Rattle.fdt_nodes.specs.NodeItems.{item_of}
 use Rattle.static_links.specs.Shared.{region, of_region, addresses, shared_id, is_owner, lacks_region, has_bad_value, shared_reason, shared_what, shared_from, shared_items, shared_memory, children_with}
 use Rattle.static_links.specs.Channels.{Channel, Ends, ends_of, other_end, event_channel}
 use Rattle.static_links.specs.Ports.{linked_to, port_item, port_reason, port_what, ports_after, port_items}
-use Rattle.dl_base.specs.Sound.{AreWholePages, IsSound, SoundUnless, AreSound}
+use Rattle.dl_base.specs.Sound.{AreWholePages, IsSound, IsSoundRegion, SoundUnless, AreSound}
+use Rattle.static_links.proofs.RegionTests.{twice_not_page, twice_too_high}
 
 -- an item is sound where it says so without a reason
 sound-item : (item : Item) (own : Option Why) (what : What) (later : Type 0) → (own ≡ None → IsSound what × later)
@@ -71,12 +72,22 @@ no_reason false false false false true f g is = absurd (cc)
 no_reason false false false false false true g is = absurd (cc)
 no_reason false false false false false false g is = (refl, refl)
 
+-- one address and a size that pass both tests
+pages_of_guest : (guest size : ℕ) → is_not_page (guest ∷ []) size ≡ false → is_too_high (guest ∷ []) size ≡ false → AreWholePages guest size
+pages_of_guest guest size whole low =
+    (pages guest guest size (twice_not_page guest size ∙ whole) (twice_too_high guest size ∙ low)).0
+
+numbers_sound : (host : Option ℕ) (guest size : ℕ) → is_not_page (addresses (record { host = host; guest = guest; size = size })) size ≡ false → is_too_high (addresses (record { host = host; guest = guest; size = size })) size ≡ false
+    → IsSoundRegion host guest size
+numbers_sound None guest size whole low = pages_of_guest guest size whole low
+numbers_sound (Some host) guest size whole low = pages host guest size whole low
+
 -- a region that is there and passes both tests
-region_sound : (found : Option Window) (id : List ℕ) (owner : Bool) → option_map_or (λ (r : Window). is_not_page (addresses r) r.size) found false ≡ false
-    → option_map_or (λ (r : Window). is_too_high (addresses r) r.size) found false ≡ false
-    → IsSound (option_map_or (λ (r : Window). whats.Shared id r.host r.guest r.size owner) found whats.Unread)
+region_sound : (found : Option SharedRegion) (id : List ℕ) (owner : Bool) → option_map_or (λ (r : SharedRegion). is_not_page (addresses r) r.size) found false ≡ false
+    → option_map_or (λ (r : SharedRegion). is_too_high (addresses r) r.size) found false ≡ false
+    → IsSound (option_map_or (λ (r : SharedRegion). whats.Shared id r.host r.guest r.size owner) found whats.Unread)
 region_sound None id owner whole low = tt
-region_sound (Some r) id owner whole low = pages r.host r.guest r.size whole low
+region_sound (Some r) id owner whole low = numbers_sound r.host r.guest r.size whole low
 
 shared_sound : (number : ℕ) (node : Node) → shared_reason number node ≡ None → IsSound (shared_what node)
 shared_sound number node none =

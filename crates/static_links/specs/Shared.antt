@@ -2,6 +2,7 @@
 use Rattle.std.specs.Prelude.{ℕ, ◌+◌, ◌==◌, ◌*◌, ◌&&◌, ◌||◌, not, nat_le, Bool, false, List, [], ◌∷◌, ◌++◌, length, filter, codes, is_none, Option, Some, None, option_and_then, unwrap_or, if◌then◌else◌}
 use Rattle.std.specs.Option.{option_map_or}
 use Rattle.dl_base.specs.declared.item.Described.{Described}
+use Rattle.dl_base.specs.declared.ranges.BaseSize.{BaseSize}
 use Rattle.dl_base.specs.declared.item.Part.TheVariants as parts
 use Rattle.dl_base.specs.declared.item.What.{What}
 use Rattle.dl_base.specs.declared.item.What.TheVariants as whats
@@ -11,7 +12,8 @@ use Rattle.fdt_tree.specs.Tree.{Bytes, property_of}
 use Rattle.fdt_nodes.specs.declared.entries.Window.{Window}
 use Rattle.fdt_nodes.specs.Nodes.{Node, children}
 use Rattle.fdt_nodes.specs.Values.{has, is_value, is_compatible, string_in}
-use Rattle.fdt_nodes.specs.Entries.{window_cells, shared_window}
+use Rattle.fdt_nodes.specs.Entries.{window_cells, shared_window, region_cells, region as entry_region}
+use Rattle.static_links.specs.declared.shared.SharedRegion.{SharedRegion}
 use Rattle.dl_base.specs.Reasons.{where_so, first_reason, described, is_not_page, is_too_high, is_too_large}
 use Rattle.fdt_nodes.specs.NodeItems.{item_of}
 
@@ -23,20 +25,32 @@ has_binding binding node = is_compatible node.properties binding
 abbrev pub children_with : Bytes → Node → List Node
 children_with binding node = filter (has_binding binding) (children node)
 
--- the region of a value, if it is one entry in these cells: a host address, a guest address and a size
-abbrev pub region_in : ℕ × ℕ → Bytes → Option Window
-region_in cells value = if length value == 4 * window_cells cells then Some (shared_window cells value) else None
+-- the full form of a region: a host address, a guest address and a size
+abbrev pub full_region : ℕ × ℕ → Bytes → SharedRegion
+full_region cells value =
+    let window : Window = shared_window cells value in record { host = Some window.host; guest = window.guest; size = window.size }
 
--- the addresses of a region
-abbrev pub addresses : Window → List ℕ
-addresses region = region.host ∷ region.guest ∷ []
+-- the short form: a guest address and a size
+abbrev pub short_region : ℕ × ℕ → Bytes → SharedRegion
+short_region cells value = let entry : BaseSize = entry_region cells value in record { host = None; guest = entry.base; size = entry.size }
+
+-- the region of a value, if it is one entry in these cells, in the form that its length tells
+abbrev pub region_in : ℕ × ℕ → Bytes → Option SharedRegion
+region_in cells value =
+    if length value == 4 * window_cells cells then Some (full_region cells value)
+    else if length value == 4 * region_cells cells then Some (short_region cells value)
+    else None
+
+-- the addresses that a region has
+abbrev pub addresses : SharedRegion → List ℕ
+addresses region = elim region.host as (λ _. List ℕ) [ None ↦ region.guest ∷ [] | Some host ↦ host ∷ region.guest ∷ [] ]
 
 -- the region of a node
-abbrev pub region : Node → Option Window
+abbrev pub region : Node → Option SharedRegion
 region node = option_and_then (λ cells. option_and_then (region_in cells) (property_of node.properties (codes "xen,shared-mem"))) node.cells
 
 -- a fact of the region, if there is one
-abbrev pub of_region : (Window → Bool) → Node → Bool
+abbrev pub of_region : (SharedRegion → Bool) → Node → Bool
 of_region test node = option_map_or test (region node) false
 
 -- its id: the text of one string

@@ -1,30 +1,95 @@
 // The regions of memory that a domain shares with others.
-ghost use Rattle.std.specs.Prelude.{◌≡◌, ◌≤◌, ◌<◌, [], length, unwrap_or, IfOk};
+ghost use Rattle.std.specs.Prelude.{◌≡◌, ◌≤◌, ◌<◌, ◌+◌, ◌*◌, [], length, unwrap_or, IfOk};
+ghost use Rattle.dl_base.specs.Reasons.{is_not_page, is_too_high};
 ghost use Rattle.fdt_nodes.specs.Held.{node_of};
 ghost use Rattle.dl_base.specs.Sound.{AreSound};
-ghost use Rattle.static_links.specs.Shared.{region_in, region, has_id, is_owner, has_role, lacks_region, has_bad_value, shared_id, shared_reason, shared_what, shared_item, shared_items};
+ghost use Rattle.static_links.specs.Shared.{full_region, short_region, addresses, region_in, region, has_id, is_owner, has_role, lacks_region, has_bad_value, shared_id, shared_reason, shared_what, shared_item, shared_items};
 
 use crate::nodes::children_with;
 use dl_base::{Bytes, Described, List, Part, What, Why, is_not_page, is_too_high, is_too_large};
-use fdt_nodes::{Window, has, is_value, item_of, own_cells, shared_window, string_at};
+use fdt_nodes::{
+    has, is_value, item_of, own_cells, region as entry_region, shared_window, string_at,
+};
 use fdt_tree::{NodeId, Tree};
 use std::alloc::{AllocError, Global};
 
-/// The region of a value, if it is one entry in these cells.
-fn region_in(cells: (u32, u32), value: &[u8]) -> Option<Window>
+/// A region of shared memory: its addresses and its size, in bytes. The host address may be left out.
+#[derive(Clone, Copy)]
+struct SharedRegion {
+    host: Option<u64>,
+    guest: u64,
+    size: u64,
+}
+
+impl SharedRegion {
+    /// The region of the full form: a host address, a guest address and a size.
+    fn full(value: &[u8], cells: (u32, u32)) -> SharedRegion
+        requires address { (1 ≤ cells.0) × (cells.0 ≤ 2) }
+        requires size { (1 ≤ cells.1) × (cells.1 ≤ 2) }
+        requires there { 4 * (cells.0 + cells.0 + cells.1) ≤ length value.now }
+        ensures { result ≡ full_region cells value.now }
+    {
+        let window = shared_window(value, cells);
+        SharedRegion {
+            host: Some(window.host),
+            guest: window.guest,
+            size: window.size,
+        }
+    }
+
+    /// The region of the short form: a guest address and a size.
+    fn short(value: &[u8], cells: (u32, u32)) -> SharedRegion
+        requires address { (1 ≤ cells.0) × (cells.0 ≤ 2) }
+        requires size { (1 ≤ cells.1) × (cells.1 ≤ 2) }
+        requires there { 4 * (cells.0 + cells.1) ≤ length value.now }
+        ensures { result ≡ short_region cells value.now }
+    {
+        let entry = entry_region(value, cells);
+        SharedRegion {
+            host: None,
+            guest: entry.base,
+            size: entry.size,
+        }
+    }
+
+    /// Whether an address that it has or its size is no multiple of a page's 4,096 bytes, or its size is 0.
+    fn is_not_page(self) -> bool
+        ensures { result ≡ is_not_page (addresses self) self.size }
+    {
+        match self.host {
+            Some(host) => is_not_page(host, self.guest, self.size),
+            None => is_not_page(self.guest, self.guest, self.size),
+        }
+    }
+
+    /// Whether it ends past 2^40, from an address that it has on.
+    fn is_too_high(self) -> bool
+        ensures { result ≡ is_too_high (addresses self) self.size }
+    {
+        match self.host {
+            Some(host) => is_too_high(host, self.guest, self.size),
+            None => is_too_high(self.guest, self.guest, self.size),
+        }
+    }
+}
+
+/// The region of a value, if it is one entry in these cells, in the form that its length tells.
+fn region_in(cells: (u32, u32), value: &[u8]) -> Option<SharedRegion>
     requires address { (1 ≤ cells.0) × (cells.0 ≤ 2) }
     requires size { (1 ≤ cells.1) × (cells.1 ≤ 2) }
     ensures { result ≡ region_in cells value.now }
 {
     if value.len() == 4 * (cells.0 + cells.0 + cells.1) as usize {
-        Some(shared_window(value, cells))
-    } else {
-        None
+        return Some(SharedRegion::full(value, cells));
     }
+    if value.len() == 4 * (cells.0 + cells.1) as usize {
+        return Some(SharedRegion::short(value, cells));
+    }
+    None
 }
 
 /// The region of a node.
-fn region(tree: &Tree, node: NodeId) -> Option<Window>
+fn region(tree: &Tree, node: NodeId) -> Option<SharedRegion>
     requires { node < length tree.now.places }
     ensures { result ≡ region (node_of tree.now node) }
 {
@@ -83,7 +148,12 @@ fn has_bad_value(tree: &Tree, node: NodeId) -> bool
 }
 
 /// The first reason against a shared memory node with this region; so many stand before it.
-fn shared_reason(tree: &Tree, node: NodeId, number: u64, found: &Option<Window>) -> Option<Why>
+fn shared_reason(
+    tree: &Tree,
+    node: NodeId,
+    number: u64,
+    found: &Option<SharedRegion>,
+) -> Option<Why>
     requires live { node < length tree.now.places }
     requires found { found.now ≡ region (node_of tree.now node) }
     ensures { result ≡ shared_reason number (node_of tree.now node) }
@@ -97,16 +167,16 @@ fn shared_reason(tree: &Tree, node: NodeId, number: u64, found: &Option<Window>)
     if has_bad_value(tree, node) {
         return Some(Why::BadValue);
     }
-    let Some(window) = found else {
+    let Some(region) = found else {
         return Some(Why::BadLength);
     };
-    if is_not_page(window.host, window.guest, window.size) {
+    if region.is_not_page() {
         return Some(Why::NotPage);
     }
-    if is_too_high(window.host, window.guest, window.size) {
+    if region.is_too_high() {
         return Some(Why::TooHigh);
     }
-    if is_too_large(window.size) {
+    if is_too_large(region.size) {
         return Some(Why::TooLarge);
     }
     None
@@ -128,20 +198,20 @@ fn shared_what(
     alloc: Global,
     tree: &Tree,
     node: NodeId,
-    found: &Option<Window>,
+    found: &Option<SharedRegion>,
 ) -> Result<What, AllocError>
     requires live { node < length tree.now.places }
     requires found { found.now ≡ region (node_of tree.now node) }
     ensures { IfOk result (λ what. what ≡ shared_what (node_of tree.now node)) }
 {
-    let Some(window) = found else {
+    let Some(region) = found else {
         return Ok(What::Unread);
     };
     Ok(What::Shared {
         id: shared_id(alloc, tree, node)?,
-        host: window.host,
-        guest: window.guest,
-        size: window.size,
+        host: region.host,
+        guest: region.guest,
+        size: region.size,
         owner: is_owner(tree, node),
     })
 }
