@@ -3,10 +3,10 @@ use Rattle.std.proofs.Common.{◌≡◌, ℕ, zero, suc, ◌+◌, ◌-◌, ◌^�
 use Rattle.std.specs.List.{range_with_len}
 use Rattle.dl_base.specs.Consecutive.{numbers}
 use Rattle.dl_base.specs.declared.ranges.FrameRange.{FrameRange}
-use Rattle.frame_alloc.specs.Frames.{frames_in, AreFrameRanges, AreFrameRangesFrom, AreFrames, AreFramesFrom, lowest_group}
+use Rattle.frame_alloc.specs.Frames.{frames_in, AreFrameRanges, AreFrameRangesFrom, AreFrames, AreFramesFrom, lowest_run, lowest_group}
 use Rattle.frame_alloc.specs.Extents.{frames_of, AreExtentsFrom}
 use Rattle.frame_alloc.specs.declared.extents.Extent.{Extent}
-use Rattle.frame_alloc.proofs.FreeFrames.{AreFramesFrom-weaker, AreFramesFrom-member, lowest_group-tells}
+use Rattle.frame_alloc.proofs.FreeFrames.{AreFramesFrom-weaker, AreFramesFrom-member, lowest_run-tells, lowest_group-tells}
 
 -- consecutive frames before ascending ones
 ascending_front : (a n start : ℕ) (rest : List ℕ) → start ≤ a → a + n ≤ 2 ^ 28 → AreFramesFrom (a + n) rest → AreFramesFrom start (range_with_len a n ++ rest)
@@ -39,4 +39,11 @@ lowest_group-bound size frames first some ok is =
     let told = lowest_group-tells size frames first is in
     let last = AreFramesFrom-member frames 0 (first + size - 1) ok (told.1 (first + size - 1) (omega arith) (omega arith)) in
     let below : first + size - 1 < 2 ^ 28 = last.1 in
+    omega arith
+
+-- so does a run
+pub lowest_run-bound : (count : ℕ) (frames : List ℕ) (first : ℕ) → 0 < count → AreFrames frames → lowest_run count frames ≡ Some first → first + count ≤ 2 ^ 28
+lowest_run-bound count frames first some ok is =
+    let last = AreFramesFrom-member frames 0 (first + count - 1) ok (lowest_run-tells count frames first is (first + count - 1) (omega arith) (omega arith)) in
+    let below : first + count - 1 < 2 ^ 28 = last.1 in
     omega arith

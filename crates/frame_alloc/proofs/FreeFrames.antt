@@ -7,7 +7,7 @@ use Rattle.std.proofs.lemmas.List.Folds.{list_any-append}
 use Rattle.std.specs.Prelude.{◌==◌}
 use Rattle.std.specs.List.{range_with_len, filter, find, list_any, list_all}
 use Rattle.dl_base.specs.Consecutive.{numbers, is_in}
-use Rattle.frame_alloc.specs.Frames.{AreFrames, AreFramesFrom, is_within, without, begins_group, lowest_frame, lowest_group, lowest_pair}
+use Rattle.frame_alloc.specs.Frames.{AreFrames, AreFramesFrom, is_within, without, begins_run, begins_group, lowest_frame, lowest_run, lowest_group, lowest_pair}
 use Rattle.frame_alloc.proofs.Without.{is_within-in, is_within-below, is_within-above}
 
 -- no frame is in the empty list
@@ -232,6 +232,11 @@ lowest_group-tells size frames first is =
     at_zero : (((first % size == 0) ≡ true) × (first % size ≡ 0)) ⊎ (((first % size == 0) ≡ false) × (first % size ≢ 0)) → (first % size == 0) ≡ true → first % size ≡ 0
     at_zero (inl h) _ = h.1
     at_zero (inr h) is = absurd (false≢true (sym h.0 ∙ is))
+
+-- what the lowest run tells: all its frames are there
+pub lowest_run-tells : (count : ℕ) (frames : List ℕ) (first : ℕ) → lowest_run count frames ≡ Some first → (frame : ℕ) → first ≤ frame → frame < first + count → is_in frames frame ≡ true
+unfolding lowest_run
+lowest_run-tells count frames first is = list_all-numbers_tells (is_in frames) first count (find_passes (begins_run count frames) frames first is)
 
 -- what the lowest pair tells: its first frame is even, and both frames are there
 pub lowest_pair-tells : (frames : List ℕ) (first : ℕ) → lowest_pair frames ≡ Some first → (first % 2 ≡ 0) × (is_in frames first ≡ true) × (is_in frames (first + 1) ≡ true)
