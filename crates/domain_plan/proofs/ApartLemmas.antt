@@ -1,5 +1,5 @@
 -- That guests are apart.
-use Rattle.std.proofs.Common.{◌≡◌, ℕ, zero, suc, ◌+◌, ◌<◌, ◌≤◌, ◌⊎◌, ◌&&◌, not, Bool, true, false, cond, List, [], ◌∷◌, Option, Some, None, Ok, refl, sym, ap, ◌∙◌, arith, inl, inr}
+use Rattle.std.proofs.Common.{◌≡◌, ℕ, zero, suc, ◌+◌, ◌<◌, ◌≤◌, ◌⊎◌, ◌&&◌, not, Bool, true, false, cond, List, [], ◌∷◌, Option, Some, None, Result, Ok, Err, refl, sym, ap, ◌∙◌, arith, inl, inr}
 use Rattle.std.specs.Prelude.{slice_get, ◌==◌, filter}
 use Rattle.std.specs.List.{list_any}
 use Rattle.std.proofs.lemmas.Option.{same_Some, none-some}
@@ -25,7 +25,8 @@ use Rattle.domain_plan.specs.Refusals.{Refusal, first_refused}
 use Rattle.domain_plan.specs.Draws.{Heaps, is_claimed, free_frames, heaps}
 use Rattle.domain_plan.specs.GuestMaps.{guest_ranges}
 use Rattle.domain_plan.specs.Arguments.{AreSound}
-use Rattle.domain_plan.specs.Plans.{passed_of, outcome, unless_refused}
+use Rattle.domain_plan.specs.Regions.{Runs, requests, runs_drawn}
+use Rattle.domain_plan.specs.Plans.{Draws, passed_of, and_heaps, draws_after, draws, outcome, unless_refused}
 use Rattle.domain_plan.specs.Apart.{is_in_one_region, MeetWhereShared}
 use Rattle.frame_ranges.proofs.CommonFrames.{true_or_false, not_both, or_tells, or_left, or_right}
 use Rattle.domain_plan.proofs.DrawLemmas.{AreDraws, heaps_tell}
@@ -101,14 +102,34 @@ not_two one other p q apart mine theirs same = by_guest p.entry.guest refl
         by_numbers number a b (inr h) k = not_both _ a h.0
 
 -- the parts of an outcome without a refusal
-pub outcome_tells : (host : Host) (loads : List Loaded) (guests : List Guest) (all : Heaps) → outcome host loads guests ≡ Ok all →
-    (first_refused host [] (joined host loads guests) ≡ None) × (heaps guests (free_frames host.ram (passed_of host loads guests)) ≡ Ok all)
+pub record Drew (host : Host) (loads : List Loaded) (guests : List Guest) (all : Draws) : Type 0 where
+  pub none : first_refused host [] (joined host loads guests) ≡ None
+  pub left : List ℕ
+  pub ran : runs_drawn (requests [] (passed_of host loads guests)) (free_frames host.ram (passed_of host loads guests)) ≡ Ok (record { runs = all.runs; left = left })
+  pub drew : heaps guests left ≡ Ok all.heaps
+
+pub draws_tell : (guests : List Guest) (o : Result Runs Refusal) (all : Draws) → draws_after guests o ≡ Ok all → (left : List ℕ) × (o ≡ Ok (record { runs = all.runs; left = left })) × (heaps guests left ≡ Ok all.heaps)
+draws_tell guests (Err refusal) all is = absurd cc
+draws_tell guests (Ok runs) all is = by_heaps (heaps guests runs.left) refl is
+  where
+    found : Result Runs Refusal
+    found = Ok runs
+
+    by_heaps : (o : Result Heaps Refusal) → heaps guests runs.left ≡ o → and_heaps runs.runs o ≡ Ok all → (left : List ℕ) × (found ≡ Ok (record { runs = all.runs; left = left })) × (heaps guests left ≡ Ok all.heaps)
+    by_heaps (Err refusal) drew e = absurd cc
+    by_heaps (Ok more) drew e =
+        let given : Draws = record { runs = runs.runs; heaps = more } in
+        let same : given ≡ all = cc in
+        (runs.left, ap (λ (one : Draws). Ok (record { runs = one.runs; left = runs.left })) same, drew ∙ ap (λ (one : Draws). Ok one.heaps) same)
+
+pub outcome_tells : (host : Host) (loads : List Loaded) (guests : List Guest) (all : Draws) → outcome host loads guests ≡ Ok all → Drew host loads guests all
 unfolding outcome
 outcome_tells host loads guests all is = by_refused (first_refused host [] (joined host loads guests)) refl is
   where
-    by_refused : (o : Option Refusal) → first_refused host [] (joined host loads guests) ≡ o → unless_refused o (heaps guests (free_frames host.ram (passed_of host loads guests))) ≡ Ok all →
-        (first_refused host [] (joined host loads guests) ≡ None) × (heaps guests (free_frames host.ram (passed_of host loads guests)) ≡ Ok all)
-    by_refused None e told = (e, told)
+    by_refused : (o : Option Refusal) → first_refused host [] (joined host loads guests) ≡ o → unless_refused o (draws guests host.ram (passed_of host loads guests)) ≡ Ok all → Drew host loads guests all
+    by_refused None e told =
+        let parts = draws_tell guests (runs_drawn (requests [] (passed_of host loads guests)) (free_frames host.ram (passed_of host loads guests))) all told in
+        record { none = e; left = parts.0; ran = parts.1; drew = parts.2 }
     by_refused (Some refusal) e told = absurd cc
 
 -- two items of two guests that map one frame are one shared region
@@ -151,31 +172,31 @@ items_meet host entries none sound one other page other_page target other_target
         absurd (not_two one other mine.mine theirs.mine apart mine.belongs theirs.belongs (same_Some mine.mine theirs.mine (sym mine.at ∙ ap (slice_get (all_passed [] entries)) at ∙ theirs.at)))
 
 -- a frame of the maps of two guests is shared in both
-pub guests_meet : (host : Host) (entries : List Entry) (guests : List Guest) (all : Heaps) → first_refused host [] entries ≡ None → AreSound entries → heaps guests (free_frames host.ram (all_passed [] entries)) ≡ Ok all →
+pub guests_meet : (host : Host) (entries : List Entry) (guests : List Guest) (all : Heaps) → first_refused host [] entries ≡ None → AreSound entries → (free : List ℕ) → ((frame : ℕ) → is_in free frame ≡ true → is_in (free_frames host.ram (all_passed [] entries)) frame ≡ true) → heaps guests free ≡ Ok all →
     (one other page other_page : ℕ) (drawn other_drawn : List FrameRange) (target other_target : Target) → (one ≡ other → ⊥) → slice_get all.drawn one ≡ Some drawn → slice_get all.drawn other ≡ Some other_drawn →
     target_of (guest_ranges (all_passed [] entries) one drawn) page ≡ Some target → target_of (guest_ranges (all_passed [] entries) other other_drawn) other_page ≡ Some other_target →
     target.frame ≡ other_target.frame → MeetWhereShared (all_passed [] entries) one other target other_target
-guests_meet host entries guests all none sound drew one other page other_page drawn other_drawn target other_target apart at other_at mapped other_mapped same =
-    let draws = heaps_tell guests (free_frames host.ram (all_passed [] entries)) all drew in
+guests_meet host entries guests all none sound free unclaimed drew one other page other_page drawn other_drawn target other_target apart at other_at mapped other_mapped same =
+    let draws = heaps_tell guests free all drew in
     by_part draws (guest_tells (all_passed [] entries) one drawn page target mapped) (guest_tells (all_passed [] entries) other other_drawn other_page other_target other_mapped)
   where
     goal : Type 0
     goal = MeetWhereShared (all_passed [] entries) one other target other_target
 
-    not_claimed : (frame : ℕ) → is_in (free_frames host.ram (all_passed [] entries)) frame ≡ true → (number page : ℕ) (t : Target) → t.frame ≡ frame → IsMappedByItem (all_passed [] entries) number page t → ⊥
-    not_claimed frame free number page t at_frame item =
+    not_claimed : (frame : ℕ) → is_in free frame ≡ true → (number page : ℕ) (t : Target) → t.frame ≡ frame → IsMappedByItem (all_passed [] entries) number page t → ⊥
+    not_claimed frame inside number page t at_frame item =
         let clear = all_clear host [] entries none sound item.place item.mine (omega arith) item.at in
         let m = item_tells host (all_passed [] entries) item.place item.mine clear.0 page t clear.1 item.mapped in
-        free_unclaimed host.ram (all_passed [] entries) frame item.place item.mine free item.at (ap (holds item.mine.claims) (sym at_frame) ∙ m.claimed)
+        free_unclaimed host.ram (all_passed [] entries) frame item.place item.mine (unclaimed frame inside) item.at (ap (holds item.mine.claims) (sym at_frame) ∙ m.claimed)
 
     order : (j k : ℕ) → (j ≡ k → ⊥) → (j < k) ⊎ (k < j)
     order j k ne = grind arith
 
-    both_drawn : AreDraws (free_frames host.ram (all_passed [] entries)) all → (one < other) ⊎ (other < one) → holds drawn target.frame ≡ true → holds other_drawn other_target.frame ≡ true → ⊥
+    both_drawn : AreDraws free all → (one < other) ⊎ (other < one) → holds drawn target.frame ≡ true → holds other_drawn other_target.frame ≡ true → ⊥
     both_drawn draws (inl low) h k = draws.apart one other target.frame drawn other_drawn low at other_at h (ap (holds other_drawn) same ∙ k)
     both_drawn draws (inr high) h k = draws.apart other one target.frame other_drawn drawn high other_at at (ap (holds other_drawn) same ∙ k) h
 
-    by_part : AreDraws (free_frames host.ram (all_passed [] entries)) all → ((target.kind ≡ Ram) × (holds drawn target.frame ≡ true)) ⊎ IsMappedByItem (all_passed [] entries) one page target →
+    by_part : AreDraws free all → ((target.kind ≡ Ram) × (holds drawn target.frame ≡ true)) ⊎ IsMappedByItem (all_passed [] entries) one page target →
         ((other_target.kind ≡ Ram) × (holds other_drawn other_target.frame ≡ true)) ⊎ IsMappedByItem (all_passed [] entries) other other_page other_target → MeetWhereShared (all_passed [] entries) one other target other_target
     by_part draws (inl h) (inl k) = absurd (both_drawn draws (order one other apart) h.1 k.1)
     by_part draws (inl h) (inr k) = absurd (not_claimed target.frame (draws.was_free one target.frame drawn at h.1) other other_page other_target (sym same) k)
@@ -183,19 +204,19 @@ guests_meet host entries guests all none sound drew one other page other_page dr
     by_part draws (inr h) (inr k) = items_meet host entries none sound one other page other_page target other_target apart h k same
 
 -- what is left for tables is mapped by no guest
-pub left_is_unmapped : (host : Host) (entries : List Entry) (guests : List Guest) (all : Heaps) → first_refused host [] entries ≡ None → AreSound entries → heaps guests (free_frames host.ram (all_passed [] entries)) ≡ Ok all →
+pub left_is_unmapped : (host : Host) (entries : List Entry) (guests : List Guest) (all : Heaps) → first_refused host [] entries ≡ None → AreSound entries → (free : List ℕ) → ((frame : ℕ) → is_in free frame ≡ true → is_in (free_frames host.ram (all_passed [] entries)) frame ≡ true) → heaps guests free ≡ Ok all →
     (number page : ℕ) (drawn : List FrameRange) (target : Target) → slice_get all.drawn number ≡ Some drawn → target_of (guest_ranges (all_passed [] entries) number drawn) page ≡ Some target → is_in all.left target.frame ≡ false
-left_is_unmapped host entries guests all none sound drew number page drawn target at mapped =
-    let draws = heaps_tell guests (free_frames host.ram (all_passed [] entries)) all drew in
+left_is_unmapped host entries guests all none sound free unclaimed drew number page drawn target at mapped =
+    let draws = heaps_tell guests free all drew in
     by_part draws (guest_tells (all_passed [] entries) number drawn page target mapped)
   where
-    by_left : AreDraws (free_frames host.ram (all_passed [] entries)) all → IsMappedByItem (all_passed [] entries) number page target → (is_in all.left target.frame ≡ true) ⊎ (is_in all.left target.frame ≡ false) → is_in all.left target.frame ≡ false
+    by_left : AreDraws free all → IsMappedByItem (all_passed [] entries) number page target → (is_in all.left target.frame ≡ true) ⊎ (is_in all.left target.frame ≡ false) → is_in all.left target.frame ≡ false
     by_left draws item (inr out) = out
     by_left draws item (inl inside) =
         let clear = all_clear host [] entries none sound item.place item.mine (omega arith) item.at in
         let m = item_tells host (all_passed [] entries) item.place item.mine clear.0 page target clear.1 item.mapped in
-        absurd (free_unclaimed host.ram (all_passed [] entries) target.frame item.place item.mine (draws.left_free target.frame inside) item.at m.claimed)
+        absurd (free_unclaimed host.ram (all_passed [] entries) target.frame item.place item.mine (unclaimed target.frame (draws.left_free target.frame inside)) item.at m.claimed)
 
-    by_part : AreDraws (free_frames host.ram (all_passed [] entries)) all → ((target.kind ≡ Ram) × (holds drawn target.frame ≡ true)) ⊎ IsMappedByItem (all_passed [] entries) number page target → is_in all.left target.frame ≡ false
+    by_part : AreDraws free all → ((target.kind ≡ Ram) × (holds drawn target.frame ≡ true)) ⊎ IsMappedByItem (all_passed [] entries) number page target → is_in all.left target.frame ≡ false
     by_part draws (inl h) = draws.not_left number target.frame drawn at h.1
     by_part draws (inr item) = by_left draws item (true_or_false (is_in all.left target.frame))

@@ -32,22 +32,22 @@ front_kept [] ys k low = absurd (omega arith)
 front_kept (x ∷ xs) ys zero low = refl
 front_kept (x ∷ xs) ys (suc k) low = front_kept xs ys k (omega arith)
 
-kept : (before : List Passed) (entries : List Entry) (k : ℕ) → k < length before → slice_get (all_passed before entries) k ≡ slice_get before k
+pub kept : (before : List Passed) (entries : List Entry) (k : ℕ) → k < length before → slice_get (all_passed before entries) k ≡ slice_get before k
 unfolding all_passed
 kept before [] k low = refl
 kept before (entry ∷ entries) k low =
     let long : k < length (before ++ passing before entry ∷ []) = omega (arith, length-append before (passing before entry ∷ [])) in
     kept (before ++ passing before entry ∷ []) entries k long ∙ front_kept before (passing before entry ∷ []) k low
 
-seam : (xs : List Passed) (x : Passed) → slice_get (xs ++ x ∷ []) (length xs) ≡ Some x
+pub seam : (xs : List Passed) (x : Passed) → slice_get (xs ++ x ∷ []) (length xs) ≡ Some x
 seam [] x = refl
 seam (y ∷ ys) x = seam ys x
 
-no_reason : (own cross : Option Why) → option_or own cross ≡ None → (own ≡ None) × (cross ≡ None)
+pub no_reason : (own cross : Option Why) → option_or own cross ≡ None → (own ≡ None) × (cross ≡ None)
 no_reason None cross is = (refl, is)
 no_reason (Some reason) cross is = absurd cc
 
-clear_first : (item : Item) (reason : Option Why) (later : Option Refusal) → or_later item reason later ≡ None → (reason ≡ None) × (later ≡ None)
+pub clear_first : (item : Item) (reason : Option Why) (later : Option Refusal) → or_later item reason later ≡ None → (reason ≡ None) × (later ≡ None)
 clear_first item None later is = (refl, is)
 clear_first item (Some reason) later is = absurd cc
 
@@ -104,7 +104,7 @@ none_found test (x ∷ xs) k p none at = by_test (test x) refl none k at (λ res
     by_test false is e zero there later = ap test (sym (same_Some x p there)) ∙ is
     by_test false is e (suc j) there later = later e j there
 
-not_named : (test : Passed → Bool) (name : Item → Why) (xs : List Passed) → naming_first test name xs ≡ None → find test xs ≡ None
+pub not_named : (test : Passed → Bool) (name : Item → Why) (xs : List Passed) → naming_first test name xs ≡ None → find test xs ≡ None
 not_named test name xs none = by_found (find test xs) none
   where
     by_found : (o : Option Passed) → option_map (λ (passed : Passed). name (item_of passed)) o ≡ None → o ≡ None

@@ -87,6 +87,16 @@ four_passed owner before a b c d =
     ap (λ (p : List Passed). all_passed p (map (entry_of owner) d)) (ap (λ (p : List Passed). all_passed p (map (entry_of owner) c)) (two_passed owner before a b) ∙ two_passed owner before (a ++ b) c)
     ∙ two_passed owner before (a ++ b ++ c) d
 
+pub four_mapped : {X Y : Type 0} (f : X → Y) (a b c d : List X) → map f a ++ map f b ++ map f c ++ map f d ≡ map f (a ++ b ++ c ++ d)
+four_mapped f a b c d =
+    ap (λ (xs : List _). xs ++ map f c ++ map f d) (sym (map-append f a b)) ∙ ap (λ (xs : List _). xs ++ map f d) (sym (map-append f (a ++ b) c)) ∙ sym (map-append f (a ++ b ++ c) d)
+
+-- a list of which each was changed
+pub get_map : {X Y : Type 0} (f : X → Y) (xs : List X) (k : ℕ) (x : X) → k < length xs → x ≡ get_or xs k x → f x ≡ get_or (map f xs) k (f x)
+get_map f [] k x low is = absurd (omega arith)
+get_map f (y ∷ ys) zero x low is = ap f is
+get_map f (y ∷ ys) (suc k) x low is = get_map f ys k x (omega arith) is
+
 get_left : {X : Type 0} (xs ys : List X) (k : ℕ) (d : X) → k < length xs → get_or (xs ++ ys) k d ≡ get_or xs k d
 get_left [] ys k d low = absurd (omega arith)
 get_left (x ∷ xs) ys zero d low = refl

@@ -1,4 +1,4 @@
--- The law: where no item is refused, guests are apart.
+-- What a guest is mapped to is apart.
 use Rattle.std.proofs.Common.{◌≡◌, ℕ, ◌/◌, ◌<◌, ◌≤◌, ◌⊎◌, Bool, true, false, cond, List, [], ◌∷◌, Option, Some, None, Ok, refl, sym, ap, subst, ◌∙◌, arith, inl, inr}
 use Rattle.std.specs.Prelude.{slice_get, option_map, ◌==◌, flat_map}
 use Rattle.std.proofs.lemmas.Option.{same_Some, none-some, slice_get-map, slice_get_within, get_or_from_slice_get}
@@ -16,18 +16,15 @@ use Rattle.frame_ranges.specs.Ranges.{holds, touched}
 use Rattle.domain_plan.specs.Entries.{Entry, joined}
 use Rattle.domain_plan.specs.Taken.{Passed, what_of, belongs_to, is_direct, is_repeated, pages_before, bank_pages, pages_of, all_passed}
 use Rattle.domain_plan.specs.Refusals.{first_refused}
-use Rattle.domain_plan.specs.Draws.{Heaps, free_frames, heaps}
+use Rattle.domain_plan.specs.Draws.{Heaps, heaps}
 use Rattle.domain_plan.specs.GuestMaps.{laid, maps_of, guest_ranges}
 use Rattle.domain_plan.specs.Arguments.{AreRead, IsSoundGuest, head_of}
 use Rattle.domain_plan.specs.Plans.{passed_of}
-use Rattle.domain_plan.specs.Apart.{GuestsAreApart}
 use Rattle.frame_ranges.proofs.CommonFrames.{not_both}
-use Rattle.domain_plan.proofs.DrawLemmas.{heaps_ascend}
 use Rattle.domain_plan.proofs.ClearLemmas.{IsClear, all_clear, is_mapping, pages_apart}
 use Rattle.domain_plan.proofs.MapLemmas.{item_tells, total, item_ranges, items_tell}
-use Rattle.domain_plan.proofs.FunctionLemmas.{AreApart, ArePagesApart, apart_function, apart_append, apart_onto, one_page_range, apart_banks, laid_pages, apart_laid, AreItemsApart, apart_items}
+use Rattle.domain_plan.proofs.FunctionLemmas.{AreApart, ArePagesApart, apart_append, apart_onto, one_page_range, apart_banks, laid_pages, apart_laid, AreItemsApart, apart_items}
 use Rattle.domain_plan.proofs.HeadLemmas.{heaps_total, entries_passed, head_joined, no_own}
-use Rattle.domain_plan.proofs.ApartLemmas.{free_ascending, outcome_tells, guests_meet, left_is_unmapped}
 
 -- the guest of an item that belongs to one
 pub belongs_tells : (number : ℕ) (p : Passed) → belongs_to (Some number) p ≡ true → p.entry.guest ≡ Some number
@@ -67,7 +64,8 @@ own_apart front mine pages = by_what (what_of mine) refl
     by_what (whats.Range host size guest) w =
         let own : mine.pages ≡ cond (is_repeated front mine.entry.guest host size guest) [] (touched (record { base = guest; size = size }) ∷ []) = rw w at pages in
         rw w (apart_onto Device (host / 4096) mine.pages (by_repeat (touched (record { base = guest; size = size })) (is_repeated front mine.entry.guest host size guest) own))
-    by_what (whats.Shared id host guest size owner) w =
+    by_what (whats.Shared id None guest size owner) w = rw w tt
+    by_what (whats.Shared id (Some host) guest size owner) w =
         let own : mine.pages ≡ touched (record { base = guest; size = size }) ∷ [] = rw w at pages in
         rw w (apart_onto Shared (host / 4096) mine.pages (subst ArePagesApart (sym own) (one_page_range (touched (record { base = guest; size = size })))))
     by_what _ w = rw w tt
@@ -81,7 +79,7 @@ sound_guest host loads guests read none number guest at =
     subst IsSoundGuest (get_or_from_slice_get guests number guest guest at) (all number guest (slice_get_within guests number guest at))
 
 -- an entry that was passed, at its place
-passed_at : (entries : List Entry) (k : ℕ) (entry : Entry) → slice_get entries k ≡ Some entry → (p : Passed) × (slice_get (all_passed [] entries) k ≡ Some p) × (p.entry ≡ entry)
+pub passed_at : (entries : List Entry) (k : ℕ) (entry : Entry) → slice_get entries k ≡ Some entry → (p : Passed) × (slice_get (all_passed [] entries) k ≡ Some p) × (p.entry ≡ entry)
 passed_at entries k entry at = by_found (slice_get (all_passed [] entries) k) refl told
   where
     told : option_map (λ (one : Passed). one.entry) (slice_get (all_passed [] entries) k) ≡ Some entry
@@ -95,10 +93,10 @@ entry_at : (entries : List Entry) (k : ℕ) (p : Passed) → slice_get (all_pass
 entry_at entries k p at =
     ap (λ (xs : List Entry). slice_get xs k) (sym (entries_passed [] entries)) ∙ slice_get-map (λ (one : Passed). one.entry) (all_passed [] entries) k ∙ ap (option_map (λ (one : Passed). one.entry)) at
 
-pub guests_apart : (host : Host) (loads : List Loaded) (guests : List Guest) (all : Heaps) → AreRead host loads guests → first_refused host [] (joined host loads guests) ≡ None → heaps guests (free_frames host.ram (passed_of host loads guests)) ≡ Ok all →
+pub guests_apart : (host : Host) (loads : List Loaded) (guests : List Guest) (all : Heaps) → AreRead host loads guests → first_refused host [] (joined host loads guests) ≡ None → (free : List ℕ) → heaps guests free ≡ Ok all →
     (number : ℕ) (drawn : List FrameRange) → slice_get all.drawn number ≡ Some drawn → AreApart (guest_ranges (passed_of host loads guests) number drawn)
 unfolding guest_ranges
-guests_apart host loads guests all read none drew number drawn at =
+guests_apart host loads guests all read none free drew number drawn at =
     apart_append (laid 0 drawn) (flat_map (item_ranges number) passed) (apart_laid 0 drawn) (apart_items number passed each items) cross
   where
     passed : List Passed
@@ -140,7 +138,7 @@ guests_apart host loads guests all read none drew number drawn at =
         let of_guest = belongs_tells number found.mine found.belongs in
         let head = head_joined host loads guests found.place number found.mine.entry (entry_at (joined host loads guests) found.place found.mine found.at) of_guest in
         let own = passed_at (joined host loads guests) head.at head.head head.there in
-        let amount = heaps_total guests (free_frames host.ram (passed_of host loads guests)) all number drawn drew at in
+        let amount = heaps_total guests free all number drawn drew at in
         let sound = sound_guest host loads guests read none number head.guest head.at_guest in
         let same : amount.0 ≡ head.guest = same_Some amount.0 head.guest (sym amount.1 ∙ head.at_guest) in
         let pages : total drawn ≡ head.guest.domain.pages = amount.2 ∙ ap (λ (guest : Guest). guest.domain.pages) same in
@@ -150,15 +148,3 @@ guests_apart host loads guests all read none drew number drawn at =
         let fills : own.0.pages ≡ bank_pages 0 head.guest.domain.pages = head_pages own_clear.0 own.0 head.guest (ap (λ (one : Passed). one.pages) own_clear.1.made) says in
         let held : holds own.0.pages page ≡ true = ap (λ (ranges : List FrameRange). holds ranges page) fills ∙ ap (λ (count : ℕ). holds (bank_pages 0 count) page) (sym pages) ∙ laid_pages 0 drawn page one e in
         before_it head.at found.place own.0 found.mine head.guest page c.0 head.before own.1 found.at c.1 n.mapping says of_guest (guest_belongs number own.0 guest) held n.filled
-
--- the law
-pub guests_are_apart : (host : Host) (loads : List Loaded) (guests : List Guest) → AreRead host loads guests → GuestsAreApart host loads guests
-guests_are_apart host loads guests read all is =
-    let parts = outcome_tells host loads guests all is in
-    record {
-      function = λ number drawn at. apart_function (guest_ranges (passed_of host loads guests) number drawn) (guests_apart host loads guests all read parts.0 parts.1 number drawn at);
-      meet = λ one other page other_page drawn other_drawn target other_target apart at other_at mapped other_mapped same.
-          guests_meet host (joined host loads guests) guests all parts.0 read.items parts.1 one other page other_page drawn other_drawn target other_target apart at other_at mapped other_mapped same;
-      left_unmapped = λ number page drawn target at mapped. left_is_unmapped host (joined host loads guests) guests all parts.0 read.items parts.1 number page drawn target at mapped;
-      left_once = heaps_ascend guests (free_frames host.ram (passed_of host loads guests)) all (free_ascending host.ram (passed_of host loads guests) read.ram) parts.1;
-    }

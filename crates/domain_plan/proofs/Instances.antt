@@ -135,7 +135,7 @@ unfolding first_refused have_common lie_in numbers digits all_passed guest_range
 irq_of_another_told = refl
 
 abbrev shared : List ℕ → ℕ → ℕ → ℕ → Described
-shared path index base page = item parts.Shared (path ++ codes "/shm" ++ decimal index) 0 (whats.Shared (codes "ring") base page 0x200000 false)
+shared path index base page = item parts.Shared (path ++ codes "/shm" ++ decimal index) 0 (whats.Shared (codes "ring") (Some base) page 0x200000 false)
 
 -- one region in two guests, and a third with another base
 abbrev ring : List Entry
@@ -244,7 +244,7 @@ unfolding first_refused have_common lie_in numbers digits usual_layout
 irq_past_spis_told = refl
 
 abbrev owned : List ℕ → Described
-owned path = item parts.Shared (path ++ codes "/shm0") 0 (whats.Shared (codes "ring") 0x60000000 0x8000000000 0x200000 true)
+owned path = item parts.Shared (path ++ codes "/shm0") 0 (whats.Shared (codes "ring") (Some 0x60000000) 0x8000000000 0x200000 true)
 
 -- two owners of one region
 owner_twice_told : told h2 (guest 0 (head dom0 0 false false) ∷ guest 0 (owned dom0) ∷ guest 1 (head dom1 0 false false) ∷ guest 1 (owned dom1) ∷ []) ≡ Some (codes "/chosen/domU1/shm0: OwnerTwice /chosen/domU0/shm0")

@@ -20,10 +20,17 @@ pub mod MapResult
 pub mod MemoryLaw
 pub mod MemoryLemmas
 pub mod OwnItems
+pub mod PlacedClear
+pub mod PlacedGuests
+pub mod PlacedLaws
+pub mod Placing
 pub mod PoolDraws
 pub mod ReadyLemmas
 pub mod ReasonLemmas
 pub mod RegionLemmas
+pub mod RegionRuns
+pub mod RunDraws
+pub mod RunSteps
 pub mod SpiLemmas
 pub mod StandingLemmas
 pub mod TakingsLemmas

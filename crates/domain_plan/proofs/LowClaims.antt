@@ -1,5 +1,5 @@
 -- Every frame that an item claims is below 2^28.
-use Rattle.std.proofs.Common.{◌≡◌, ℕ, zero, suc, ◌+◌, ◌/◌, ◌^◌, ◌<◌, ◌≤◌, Bool, true, false, cond, List, [], ◌∷◌, ◌++◌, length, map, get_or, sym, subst, arith}
+use Rattle.std.proofs.Common.{◌≡◌, ℕ, zero, suc, ◌+◌, ◌/◌, ◌^◌, ◌<◌, ◌≤◌, Bool, true, false, cond, List, [], ◌∷◌, ◌++◌, length, map, get_or, Option, Some, None, sym, subst, arith}
 use Rattle.std.specs.Prelude.{◌==◌}
 use Rattle.dl_base.specs.declared.ranges.BaseSize.{BaseSize}
 use Rattle.dl_base.specs.declared.ranges.FrameRange.{FrameRange}
@@ -8,7 +8,7 @@ use Rattle.dl_base.specs.declared.item.What.TheVariants as whats
 use Rattle.domain_plan.specs.declared.state.Taken.{Taken}
 use Rattle.frame_ranges.specs.Ranges.{touched, cut, between}
 use Rattle.domain_plan.specs.Entries.{Entry}
-use Rattle.domain_plan.specs.Taken.{Passed, is_loaded, is_repeated, claims_of, passing, all_passed}
+use Rattle.domain_plan.specs.Taken.{Passed, is_loaded, is_repeated, region_claims, claims_of, passing, all_passed}
 use Rattle.domain_plan.specs.PrivateStanding.{taken_at, taken_from, claims_taken}
 
 -- ranges that end at or below frame 2^28
@@ -39,7 +39,7 @@ claims_low before entry = elim entry.described.what as (λ (w : What). AreLow (e
   | whats.Module kind at ↦ cond (is_loaded before at) [] (touched at ∷ [])
   | whats.Static at ↦ touched at ∷ []
   | whats.Range host size guest ↦ cond (is_repeated before entry.guest host size guest) [] (touched (record { base = host; size = size }) ∷ [])
-  | whats.Shared id host guest size owner ↦ touched (record { base = host; size = size }) ∷ []
+  | whats.Shared id host guest size owner ↦ region_claims host size
   | _ ↦ []
 ])) [
   | whats.Reserved entries ↦ all_low entries
@@ -48,13 +48,17 @@ claims_low before entry = elim entry.described.what as (λ (w : What). AreLow (e
   | whats.Module kind at ↦ unless (is_loaded before at) (touched at) (touched_low at)
   | whats.Static at ↦ (touched_low at, tt)
   | whats.Range host size guest ↦ unless (is_repeated before entry.guest host size guest) (touched (record { base = host; size = size })) (touched_low (record { base = host; size = size }))
-  | whats.Shared id host guest size owner ↦ (touched_low (record { base = host; size = size }), tt)
+  | whats.Shared id host guest size owner ↦ by_host host size
   | _ ↦ tt
 ]
   where
     unless : (b : Bool) (range : FrameRange) → range.first + range.count ≤ 2 ^ 28 → AreLow (cond b [] (range ∷ []))
     unless true range low = tt
     unless false range low = (low, tt)
+
+    by_host : (host : Option ℕ) (size : ℕ) → AreLow (region_claims host size)
+    by_host None size = tt
+    by_host (Some host) size = (touched_low (record { base = host; size = size }), tt)
 
 -- every item's
 abbrev ArePassedLow : List Passed → Type 0

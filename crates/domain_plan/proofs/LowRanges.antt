@@ -81,7 +81,8 @@ low_item before entry sound few = by_what entry.described.what sound few
     by_what : (what : What) → IsSound what → pages_before before entry.guest + static_pages what ≤ 2 ^ 23 → AreLowRanges (maps_by what (pages_with before entry.guest what))
     by_what (whats.Static at) whole small = by_direct at (is_direct before entry.guest) whole small
     by_what (whats.Range host size guest) whole small = by_repeat host size guest (is_repeated before entry.guest host size guest) whole.0 whole.1
-    by_what (whats.Shared id host guest size owner) whole small = low_touched Shared host guest size whole.0 whole.1
+    by_what (whats.Shared id None guest size owner) whole small = tt
+    by_what (whats.Shared id (Some host) guest size owner) whole small = low_touched Shared host guest size whole.0 whole.1
     by_what _ whole small = tt
 
 -- entries that are sound, without a reason of their own

@@ -178,7 +178,8 @@ item_tells host all place mine front page target clear is =
           claimed = by_repeat host size guest (is_repeated front mine.entry.guest host size guest) whole.0 whole.1 own_claims own_pages mapped;
           filled = found.held;
         }
-    by_what (whats.Shared id host guest size owner) w e sound claims pages =
+    by_what (whats.Shared id None guest size owner) w e sound claims pages = absurd (none-some target (rw w at e))
+    by_what (whats.Shared id (Some host) guest size owner) w e sound claims pages =
         let mapped : target_of (onto Shared (host / 4096) mine.pages) page ≡ Some target = rw w at e in
         let whole : AreWholePages host size × AreWholePages guest size = rw w at sound in
         let own_claims : mine.claims ≡ touched (record { base = host; size = size }) ∷ [] = rw w at claims in

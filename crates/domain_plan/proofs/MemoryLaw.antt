@@ -1,5 +1,5 @@
--- The law: where no item is refused, a guest's listed memory is what its map gives it as its own.
-use Rattle.std.proofs.Common.{◌≡◌, ℕ, ◌+◌, ◌^◌, ◌<◌, ◌≤◌, ◌⊎◌, ◌||◌, Bool, true, false, leb, cond, List, [], ◌∷◌, ◌++◌, drop, Some, refl, sym, ap, ◌∙◌, arith, inl, inr}
+-- A guest's listed memory is what its map gives it as its own.
+use Rattle.std.proofs.Common.{◌≡◌, ℕ, ◌+◌, ◌^◌, ◌<◌, ◌≤◌, ◌⊎◌, ◌||◌, Bool, true, false, leb, cond, List, [], ◌∷◌, ◌++◌, drop, Some, None, Ok, refl, sym, ap, ◌∙◌, arith, inl, inr}
 use Rattle.std.specs.Prelude.{slice_get, flat_map, sum_by}
 use Rattle.std.specs.List.{list_any}
 use Rattle.std.proofs.lemmas.Option.{same_Some, none-some}
@@ -13,15 +13,16 @@ use Rattle.domain_plan.specs.declared.described.Guest.{Guest}
 use Rattle.dl_base.specs.declared.loaded.Loaded.{Loaded}
 use Rattle.frame_ranges.specs.Ranges.{holds}
 use Rattle.frame_ranges.proofs.CommonFrames.{true_or_false, not_both}
-use Rattle.domain_plan.specs.Entries.{of_guest, is_read, items_of}
+use Rattle.domain_plan.specs.Entries.{joined, of_guest, is_read, items_of}
 use Rattle.domain_plan.specs.Taken.{Passed, says_direct, is_direct, static_pages, pages_before, bank_pages, all_passed}
-use Rattle.domain_plan.specs.Draws.{free_frames}
+use Rattle.frame_alloc.specs.Frames.{AreFrames}
+use Rattle.domain_plan.specs.Refusals.{first_refused}
+use Rattle.domain_plan.specs.Draws.{Heaps, heaps}
 use Rattle.domain_plan.specs.GuestMaps.{laid, guest_ranges}
 use Rattle.domain_plan.specs.PrivateLaying.{total, maps_by, AreApart}
 use Rattle.domain_plan.specs.Arguments.{AreRead, IsSoundGuest, head_of}
 use Rattle.domain_plan.specs.Plans.{passed_of, said_by, static_memory, banks_filled, memories_of}
-use Rattle.domain_plan.specs.Memories.{is_ram, is_listed, HasOneKindOfMemory, MemoryIsMapped}
-use Rattle.domain_plan.proofs.ApartLemmas.{outcome_tells}
+use Rattle.domain_plan.specs.Memories.{is_ram, is_listed, HasOneKindOfMemory}
 use Rattle.domain_plan.proofs.GuestsLaw.{sound_guest}
 use Rattle.domain_plan.proofs.HeadLemmas.{heaps_total}
 use Rattle.domain_plan.proofs.MapLemmas.{item_ranges}
@@ -115,15 +116,16 @@ same_memories number guest passed own same =
     ∙ ap (λ (xs : List (ℕ × ℕ)). cond (is_direct own (Some number)) xs (banks_filled (guest.domain.pages + pages_before passed (Some number)))) (same_said static_memory number passed own same)
     ∙ ap (λ (k : ℕ). cond (is_direct own (Some number)) (said_by own number static_memory) (banks_filled (guest.domain.pages + k))) (same_static number passed own same)
 
--- the law
-pub memory_is_mapped : (host : Host) (loads : List Loaded) (guests : List Guest) → AreRead host loads guests → MemoryIsMapped host loads guests
-memory_is_mapped host loads guests read all number guest drawn is at at_drawn kinds page =
-    let parts = outcome_tells host loads guests all is in
+-- a guest's listed memory is what its map gives it as its own
+pub memory_mapped : (host : Host) (loads : List Loaded) (guests : List Guest) (all : Heaps) → AreRead host loads guests → first_refused host [] (joined host loads guests) ≡ None → (free : List ℕ) → AreFrames free → heaps guests free ≡ Ok all →
+    (number : ℕ) (guest : Guest) (drawn : List FrameRange) → slice_get guests number ≡ Some guest → slice_get all.drawn number ≡ Some drawn → HasOneKindOfMemory guest →
+    (page : ℕ) → is_listed (memories_of (passed_of host loads guests) number guest) page ≡ is_ram (guest_ranges (passed_of host loads guests) number drawn) page
+memory_mapped host loads guests all read none free ascending drew number guest drawn at at_drawn kinds page =
     let own = own_items host loads guests number guest at in
-    let made = ready host loads guests all read parts.0 parts.1 number guest drawn at at_drawn in
-    let amount = heaps_total guests (free_frames host.ram (passed_of host loads guests)) all number drawn parts.1 at_drawn in
+    let made = ready host loads guests all read none free ascending drew number guest drawn at at_drawn in
+    let amount = heaps_total guests free all number drawn drew at_drawn in
     let same : amount.0 ≡ guest = same_Some amount.0 guest (sym amount.1 ∙ at) in
     let pages : total drawn ≡ guest.domain.pages = amount.2 ∙ ap (λ (one : Guest). one.domain.pages) same in
     ap (λ memories. is_listed memories page) (same_memories number guest (passed_of host loads guests) (own_passed number guest) own)
-    ∙ own_mapped number page guest drawn made.apart (sound_guest host loads guests read parts.0 number guest at) kinds pages
+    ∙ own_mapped number page guest drawn made.apart (sound_guest host loads guests read none number guest at) kinds pages
     ∙ ap (λ (ranges : List MapRange). is_ram ranges page) (sym (same_ranges number (passed_of host loads guests) (own_passed number guest) drawn own))

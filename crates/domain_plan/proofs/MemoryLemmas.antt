@@ -1,5 +1,5 @@
 -- The pages of a guest's memory: those that are listed, and those that are mapped as such.
-use Rattle.std.proofs.Common.{◌≡◌, ℕ, ◌+◌, ◌-◌, ◌/◌, ◌^◌, ◌<◌, ◌≤◌, ◌⊎◌, ◌&&◌, ◌||◌, min, Bool, true, false, leb, cond, List, [], ◌∷◌, ◌++◌, map, Some, refl, sym, ap, ◌∙◌, arith, inl, inr, append-nil, append_assoc}
+use Rattle.std.proofs.Common.{◌≡◌, ℕ, ◌+◌, ◌-◌, ◌/◌, ◌^◌, ◌<◌, ◌≤◌, ◌⊎◌, ◌&&◌, ◌||◌, min, Bool, true, false, leb, cond, List, [], ◌∷◌, ◌++◌, map, Some, None, refl, sym, ap, ◌∙◌, arith, inl, inr, append-nil, append_assoc}
 use Rattle.std.specs.Prelude.{flat_map, filter, sum_by, nat_lt}
 use Rattle.std.specs.List.{list_any}
 use Rattle.std.proofs.lemmas.Grind.{flat_map-append}
@@ -138,8 +138,9 @@ what_ram before number page (whats.Static at) indirect =
     ∙ ap (λ (b : Bool). holds (cond b (touched at ∷ []) (bank_pages (pages_before before (Some number)) (touched at).count)) page) indirect
 what_ram before number page (whats.Range host size guest) indirect =
     ram_onto page Device (host / 4096) (pages_with before (Some number) (whats.Range host size guest)) ∙ sym (banks_none (pages_before before (Some number)) page)
-what_ram before number page (whats.Shared id host guest size owner) indirect =
-    ram_onto page Shared (host / 4096) (pages_with before (Some number) (whats.Shared id host guest size owner)) ∙ sym (banks_none (pages_before before (Some number)) page)
+what_ram before number page (whats.Shared id None guest size owner) indirect = sym (banks_none (pages_before before (Some number)) page)
+what_ram before number page (whats.Shared id (Some host) guest size owner) indirect =
+    ram_onto page Shared (host / 4096) (pages_with before (Some number) (whats.Shared id (Some host) guest size owner)) ∙ sym (banks_none (pages_before before (Some number)) page)
 what_ram before number page _ indirect = sym (banks_none (pages_before before (Some number)) page)
 
 what_direct : (before : List Passed) (number page : ℕ) (what : What) → is_direct before (Some number) ≡ true → ram_at page (maps_by what (pages_with before (Some number) what)) ≡ holds (static_ranges what) page
@@ -147,7 +148,8 @@ what_direct before number page (whats.Static at) direct =
     ram_onto page Ram (at.base / 4096) (pages_with before (Some number) (whats.Static at))
     ∙ ap (λ (b : Bool). holds (cond b (touched at ∷ []) (bank_pages (pages_before before (Some number)) (touched at).count)) page) direct
 what_direct before number page (whats.Range host size guest) direct = ram_onto page Device (host / 4096) (pages_with before (Some number) (whats.Range host size guest))
-what_direct before number page (whats.Shared id host guest size owner) direct = ram_onto page Shared (host / 4096) (pages_with before (Some number) (whats.Shared id host guest size owner))
+what_direct before number page (whats.Shared id None guest size owner) direct = refl
+what_direct before number page (whats.Shared id (Some host) guest size owner) direct = ram_onto page Shared (host / 4096) (pages_with before (Some number) (whats.Shared id (Some host) guest size owner))
 what_direct before number page _ direct = refl
 
 -- how many static pages the items of a guest have

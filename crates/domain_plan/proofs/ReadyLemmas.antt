@@ -14,13 +14,13 @@ use Rattle.domain_plan.specs.declared.planned.GuestPlan.{GuestPlan}
 use Rattle.domain_plan.specs.Entries.{joined, of_guest, is_read, items_of}
 use Rattle.domain_plan.specs.Taken.{Passed}
 use Rattle.domain_plan.specs.Refusals.{Refusal, first_refused}
-use Rattle.domain_plan.specs.Draws.{Drawn, Heaps, drawn, heaps, and_drawn, heap_item, free_frames}
+use Rattle.domain_plan.specs.Draws.{Drawn, Heaps, drawn, heaps, and_drawn, heap_item}
 use Rattle.dl_base.specs.Sound.{IsSound}
 use Rattle.domain_plan.specs.Arguments.{AreRead, IsSoundGuest}
 use Rattle.domain_plan.specs.PrivateLaying.{total, AreApart}
 use Rattle.domain_plan.specs.Plans.{passed_of, IsGuestPlan, AreGuestPlans}
 use Rattle.domain_plan.specs.PrivateGiving.{IsReady}
-use Rattle.domain_plan.proofs.ApartLemmas.{free_ascending}
+use Rattle.frame_alloc.specs.Frames.{AreFrames}
 use Rattle.domain_plan.proofs.HeadLemmas.{heaps_total, no_own}
 use Rattle.domain_plan.proofs.GuestsLaw.{guests_apart, sound_guest}
 use Rattle.domain_plan.proofs.OwnItems.{own_entries, own_passed, own_items, same_ranges}
@@ -31,23 +31,23 @@ each_sound number read [] sound k d low = absurd (omega arith)
 each_sound number read (item ∷ items) sound zero d low = sound.0
 each_sound number read (item ∷ items) sound (suc k) d low = each_sound number read items sound.1 k d (omega arith)
 
-pub ready : (host : Host) (loads : List Loaded) (guests : List Guest) (all : Heaps) → AreRead host loads guests → first_refused host [] (joined host loads guests) ≡ None → heaps guests (free_frames host.ram (passed_of host loads guests)) ≡ Ok all →
-    (number : ℕ) (guest : Guest) (frames : List FrameRange) → slice_get guests number ≡ Some guest → slice_get all.drawn number ≡ Some frames → IsReady number guest frames
-ready host loads guests all read none drew number guest frames at at_drawn =
+pub ready : (host : Host) (loads : List Loaded) (guests : List Guest) (all : Heaps) → AreRead host loads guests → first_refused host [] (joined host loads guests) ≡ None → (free : List ℕ) → AreFrames free → heaps guests free ≡ Ok all →
+    (number : ℕ) (guest : Guest) (frames : List FrameRange) → slice_get guests number ≡ Some guest → slice_get all.drawn number ≡ Some frames → IsReady number guest (items_of guest) frames
+ready host loads guests all read none free ascending drew number guest frames at at_drawn =
     let sound : AllSound (own_entries number guest) = own_sound host loads guests number guest (no_own host [] (joined host loads guests) none) read.items at in
     let own : IsSoundGuest guest = sound_guest host loads guests read none number guest at in
     let few : guest.domain.pages ≤ 2 ^ 22 = few_pages number guest sound own in
-    let amount = heaps_total guests (free_frames host.ram (passed_of host loads guests)) all number frames drew at_drawn in
+    let amount = heaps_total guests free all number frames drew at_drawn in
     let same : amount.0 ≡ guest = same_Some amount.0 guest (sym amount.1 ∙ at) in
     let pages : total frames ≡ guest.domain.pages = amount.2 ∙ ap (λ (one : Guest). one.domain.pages) same in
     let few_drawn : total frames ≤ 2 ^ 22 = omega arith in
-    let low = drawn_low guests (free_frames host.ram (passed_of host loads guests)) all number frames (free_ascending host.ram (passed_of host loads guests) read.ram) drew at_drawn in
+    let low = drawn_low guests free all number frames ascending drew at_drawn in
     record {
       sound = each_sound number (is_read guest.partial) (items_of guest) sound;
       few = few;
       few_drawn = few_drawn;
       low = low;
-      apart = subst AreApart (same_ranges number (passed_of host loads guests) (own_passed number guest) frames (own_items host loads guests number guest at)) (guests_apart host loads guests all read none drew number frames at_drawn);
+      apart = subst AreApart (same_ranges number (passed_of host loads guests) (own_passed number guest) frames (own_items host loads guests number guest at)) (guests_apart host loads guests all read none free drew number frames at_drawn);
       low_ranges = guest_low number guest frames sound own few_drawn low;
     }
 

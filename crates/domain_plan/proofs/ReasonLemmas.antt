@@ -83,19 +83,19 @@ pub range_reasons : (host : Host) (before : List Passed) (mine : Passed) (from s
 range_reasons host before mine from size guest is =
     ap (option_or (claiming before mine.claims)) (guest_overlap_is host before mine ∙ sym (or_none_last (guest_overlap host before mine))) ∙ rw is refl
 
-region_is : (id : List ℕ) (host page size : ℕ) (owns : Bool) (what : What) → is_region id what ≡ are_one_region (whats.Shared id host page size owns) what
+region_is : (id : List ℕ) (host : Option ℕ) (page size : ℕ) (owns : Bool) (what : What) → is_region id what ≡ are_one_region (whats.Shared id host page size owns) what
 region_is id host page size owns what = elim what as (λ (w : What). is_region id w ≡ are_one_region (whats.Shared id host page size owns) w) [
   | whats.Shared other_id other_host other_page other_size other_owns ↦ refl
   | _ ↦ refl
 ]
 
-base_is : (id : List ℕ) (host page size : ℕ) (owns : Bool) (what : What) → have_one_base (whats.Shared id host 0 size false) what ≡ have_one_base (whats.Shared id host page size owns) what
+base_is : (id : List ℕ) (host : Option ℕ) (page size : ℕ) (owns : Bool) (what : What) → have_one_base (whats.Shared id host 0 size false) what ≡ have_one_base (whats.Shared id host page size owns) what
 base_is id host page size owns what = elim what as (λ (w : What). have_one_base (whats.Shared id host 0 size false) w ≡ have_one_base (whats.Shared id host page size owns) w) [
   | whats.Shared other_id other_host other_page other_size other_owns ↦ refl
   | _ ↦ refl
 ]
 
-unlike_is : (id : List ℕ) (host page size : ℕ) (owns : Bool) (o : Option Passed) → unlike (whats.Shared id host 0 size false) o ≡ unlike (whats.Shared id host page size owns) o
+unlike_is : (id : List ℕ) (host : Option ℕ) (page size : ℕ) (owns : Bool) (o : Option Passed) → unlike (whats.Shared id host 0 size false) o ≡ unlike (whats.Shared id host page size owns) o
 unlike_is id host page size owns None = refl
 unlike_is id host page size owns (Some p) = ap (λ (b : Bool). where_so (not b) (whys.ShmDiffers (item_of p))) (base_is id host page size owns (what_of p))
 
@@ -108,7 +108,7 @@ six None None (Some c) d e f = refl
 six None (Some b) c d e f = refl
 six (Some a) b c d e f = refl
 
-pub shared_reasons : (host : Host) (before : List Passed) (mine : Passed) (id : List ℕ) (from page size : ℕ) (owns : Bool) → what_of mine ≡ whats.Shared id from page size owns →
+pub shared_reasons : (host : Host) (before : List Passed) (mine : Passed) (id : List ℕ) (from : Option ℕ) (page size : ℕ) (owns : Bool) → what_of mine ≡ whats.Shared id from page size owns →
     option_or (naming_reasons mine.entry.guest id from size owns before) (landing_reasons mine.entry.guest host id mine.claims mine.pages before) ≡ first_there (cross_reasons host before mine)
 shared_reasons host before mine id from page size owns is =
     let one : Passed → Bool = λ p. are_one_region (whats.Shared id from page size owns) (what_of p) in

@@ -16,7 +16,7 @@ use Rattle.domain_plan.specs.declared.state.Taken.{Taken}
 use Rattle.frame_ranges.specs.Ranges.{have_common}
 use Rattle.domain_plan.specs.Taken.{Passed, item_of, what_of, belongs_to}
 use Rattle.dl_base.specs.Reasons.{where_so}
-use Rattle.domain_plan.specs.Reasons.{have_one_base, unlike, is_owner}
+use Rattle.domain_plan.specs.Reasons.{is_same_host, have_one_base, unlike, is_owner}
 use Rattle.domain_plan.specs.PrivateStanding.{taken_at, taken_from, claims_taken, is_guest, region_in, regions_from, is_region, is_sought, is_region_at}
 use Rattle.frame_ranges.proofs.CommonFrames.{none_common, common-cons_left}
 
@@ -228,25 +228,25 @@ owner_found id guest before = found_from region_item item_of (is_sought id guest
     ]
 
 -- whether a region has this host base and size; if not, ShmDiffers
-abbrev pub has_base : ℕ → ℕ → Region → Bool
-has_base host size region = (host == region.host) && (size == region.size)
+abbrev pub has_base : Option ℕ → ℕ → Region → Bool
+has_base host size region = is_same_host host region.host && (size == region.size)
 
-abbrev pub differs : ℕ → ℕ → Region → Option Why
+abbrev pub differs : Option ℕ → ℕ → Region → Option Why
 differs host size region = where_so (not (has_base host size region)) (whys.ShmDiffers region.item)
 
-abbrev differs_from : List ℕ → ℕ → ℕ → Passed → Option Why
+abbrev differs_from : List ℕ → Option ℕ → ℕ → Passed → Option Why
 differs_from id host size p = where_so (not (have_one_base (whats.Shared id host 0 size false) (what_of p))) (whys.ShmDiffers (item_of p))
 
 abbrev pub inner : Option (Option Why) → Option Why
 inner None = None
 inner (Some why) = why
 
-unlike_inner : (id : List ℕ) (host size : ℕ) (o : Option Passed) → inner (option_map (differs_from id host size) o) ≡ unlike (whats.Shared id host 0 size false) o
+unlike_inner : (id : List ℕ) (host : Option ℕ) (size : ℕ) (o : Option Passed) → inner (option_map (differs_from id host size) o) ≡ unlike (whats.Shared id host 0 size false) o
 unlike_inner id host size None = refl
 unlike_inner id host size (Some p) = refl
 
 -- ShmDiffers: the first region of the id has another base or size
-pub differs_found : (id : List ℕ) (guest : Option ℕ) (host size : ℕ) (before : List Passed) →
+pub differs_found : (id : List ℕ) (guest host : Option ℕ) (size : ℕ) (before : List Passed) →
     inner (option_map (differs host size) (find (is_sought id guest true false) (regions_from 0 before))) ≡ unlike (whats.Shared id host 0 size false) (find (λ p. is_region id (what_of p)) before)
 differs_found id guest host size before =
     ap inner (found_from (differs host size) (differs_from id host size) (is_sought id guest true false) (λ p. is_region id (what_of p)) (λ k p. by_what (item_of p) k p.entry.guest (what_of p)) 0 before)
@@ -277,7 +277,7 @@ pub regions_none : regions_from 0 [] ≡ []
 unfolding regions_from
 regions_none = refl
 
-pub differs_is : (b : Bool) (host size : ℕ) (region : Region) → not (has_base host size region) ≡ b → where_so b (whys.ShmDiffers region.item) ≡ inner (Some (differs host size region))
+pub differs_is : (b : Bool) (host : Option ℕ) (size : ℕ) (region : Region) → not (has_base host size region) ≡ b → where_so b (whys.ShmDiffers region.item) ≡ inner (Some (differs host size region))
 differs_is b host size region is = ap (λ (b : Bool). where_so b (whys.ShmDiffers region.item)) (sym is)
 
 pub lands_last : (b : Bool) (name : Why) (o w : Option Why) (why : Option Why) → b ≡ true → None ≡ o → why ≡ w → why ≡ option_or (where_so (not b) name) (option_or o w)

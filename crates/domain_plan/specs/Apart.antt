@@ -15,7 +15,7 @@ use Rattle.domain_plan.specs.Taken.{Passed, what_of, belongs_to}
 use Rattle.domain_plan.specs.Reasons.{are_one_region}
 use Rattle.domain_plan.specs.Draws.{Heaps}
 use Rattle.domain_plan.specs.GuestMaps.{guest_ranges}
-use Rattle.domain_plan.specs.Plans.{passed_of, outcome}
+use Rattle.domain_plan.specs.Plans.{Draws, placed_of, outcome}
 
 -- the range maps the page to this target
 abbrev pub IsMappedBy : MapRange → ℕ → Target → Type 0
@@ -50,4 +50,4 @@ pub record AreApart (passed : List Passed) (heaps : Heaps) : Type 0 where
 
 -- where no item is refused, guests are apart
 abbrev pub GuestsAreApart : Host → List Loaded → List Guest → Type 0
-GuestsAreApart host loads guests = (heaps : Heaps) → outcome host loads guests ≡ Ok heaps → AreApart (passed_of host loads guests) heaps
+GuestsAreApart host loads guests = (draws : Draws) → outcome host loads guests ≡ Ok draws → AreApart (placed_of draws.runs host loads guests) draws.heaps

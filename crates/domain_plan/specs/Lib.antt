@@ -8,9 +8,11 @@ pub mod Memories
 pub mod Plans
 pub mod PrivateGiving
 pub mod PrivateLaying
+pub mod PrivateRuns
 pub mod PrivateStanding
 pub mod PrivateTakings
 pub mod Reasons
 pub mod Refusals
+pub mod Regions
 pub mod Taken
 pub mod Layouts

@@ -11,10 +11,9 @@ use Rattle.domain_bindings.specs.declared.host.Host.{Host}
 use Rattle.domain_plan.specs.declared.described.Guest.{Guest}
 use Rattle.dl_base.specs.declared.loaded.Loaded.{Loaded}
 use Rattle.domain_plan.specs.Taken.{says_direct, static_pages}
-use Rattle.domain_plan.specs.Draws.{Heaps}
 use Rattle.domain_plan.specs.GuestMaps.{guest_ranges}
 use Rattle.domain_plan.specs.Arguments.{whats_of}
-use Rattle.domain_plan.specs.Plans.{passed_of, memories_of, outcome}
+use Rattle.domain_plan.specs.Plans.{Draws, placed_of, memories_of, outcome}
 
 -- memory of the guest alone
 abbrev pub is_ram_kind : Kind → Bool
@@ -43,5 +42,5 @@ pub record HasOneKindOfMemory (guest : Guest) : Type 0 where
 -- where no item is refused, the pages of a guest's listed memory are those that its map gives it as its own
 abbrev pub MemoryIsMapped : Host → List Loaded → List Guest → Type 0
 MemoryIsMapped host loads guests =
-    (heaps : Heaps) (number : ℕ) (guest : Guest) (drawn : List FrameRange) → outcome host loads guests ≡ Ok heaps → slice_get guests number ≡ Some guest → slice_get heaps.drawn number ≡ Some drawn →
-    HasOneKindOfMemory guest → (page : ℕ) → is_listed (memories_of (passed_of host loads guests) number guest) page ≡ is_ram (guest_ranges (passed_of host loads guests) number drawn) page
+    (draws : Draws) (number : ℕ) (guest : Guest) (drawn : List FrameRange) → outcome host loads guests ≡ Ok draws → slice_get guests number ≡ Some guest → slice_get draws.heaps.drawn number ≡ Some drawn →
+    HasOneKindOfMemory guest → (page : ℕ) → is_listed (memories_of (placed_of draws.runs host loads guests) number guest) page ≡ is_ram (guest_ranges (placed_of draws.runs host loads guests) number drawn) page

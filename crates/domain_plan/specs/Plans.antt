@@ -1,5 +1,5 @@
 -- The plan of a description, or the first item that is refused.
-use Rattle.std.specs.Prelude.{◌≡◌, ℕ, ◌+◌, ◌&&◌, nat_lt, if◌then◌else◌, List, [], ◌∷◌, map, filter, flat_map, Option, Some, None, Result, Err}
+use Rattle.std.specs.Prelude.{◌≡◌, ℕ, ◌+◌, ◌&&◌, nat_lt, if◌then◌else◌, List, [], ◌∷◌, map, filter, flat_map, Option, Some, None, Result, Ok, Err}
 use Rattle.std.specs.List.{list_any}
 use Rattle.dl_base.specs.Consecutive.{numbers}
 use Rattle.dl_base.specs.Maps.{target_of, AreMapRanges, AreMerged}
@@ -18,22 +18,46 @@ use Rattle.domain_plan.specs.Taken.{Passed, what_of, belongs_to, is_direct, page
 use Rattle.domain_plan.specs.Reasons.{is_irq, layout_at}
 use Rattle.domain_plan.specs.Refusals.{Refusal, first_refused}
 use Rattle.domain_plan.specs.Draws.{Heaps, free_frames, heaps}
+use Rattle.domain_plan.specs.declared.runs.Run.{Run}
+use Rattle.domain_plan.specs.Regions.{Runs, requests, runs_drawn, placed}
 use Rattle.domain_plan.specs.GuestMaps.{guest_ranges}
 
 -- all items with what they take
 abbrev pub passed_of : Host → List Loaded → List Guest → List Passed
 passed_of host loads guests = all_passed [] (joined host loads guests)
 
+-- what was drawn: the runs of regions, and the memory of guests with what is left
+pub record Draws : Type 0 where
+  pub runs : List Run
+  pub heaps : Heaps
+
+-- all items with what they take, each region at its host address
+abbrev pub placed_of : List Run → Host → List Loaded → List Guest → List Passed
+placed_of runs host loads guests = all_passed [] (placed runs (joined host loads guests))
+
+-- the guests' memory is drawn after these runs
+abbrev pub and_heaps : List Run → Result Heaps Refusal → Result Draws Refusal
+and_heaps runs (Err refusal) = Err refusal
+and_heaps runs (Ok heaps) = Ok (record { runs = runs; heaps = heaps })
+
+-- the regions draw, and then the guests draw from what is left
+abbrev pub draws_after : List Guest → Result Runs Refusal → Result Draws Refusal
+draws_after guests (Err refusal) = Err refusal
+draws_after guests (Ok runs) = and_heaps runs.runs (heaps guests runs.left)
+
+-- what regions and guests draw from the frames that no item claims; the first that cannot is refused
+abbrev pub draws : List Guest → List FrameRange → List Passed → Result Draws Refusal
+draws guests ram passed = draws_after guests (runs_drawn (requests [] passed) (free_frames ram passed))
+
 -- a refusal, or else what comes after it
-abbrev pub unless_refused : Option Refusal → Result Heaps Refusal → Result Heaps Refusal
+abbrev pub unless_refused : Option Refusal → Result Draws Refusal → Result Draws Refusal
 unless_refused (Some refusal) later = Err refusal
 unless_refused None later = later
 
--- the first refused item with its first reason, the requests for memory coming last; or what the guests drew and what is left
-unfoldable pub outcome : Host → List Loaded → List Guest → Result Heaps Refusal
+-- the first refused item with its first reason, the requests of regions and of guests for memory coming last; or what was drawn and what is left
+unfoldable pub outcome : Host → List Loaded → List Guest → Result Draws Refusal
 outcome host loads guests =
-    unless_refused (first_refused host [] (joined host loads guests))
-    (heaps guests (free_frames host.ram (passed_of host loads guests)))
+    unless_refused (first_refused host [] (joined host loads guests)) (draws guests host.ram (passed_of host loads guests))
 
 -- what the items of a guest say, one by one
 abbrev pub said_by : List Passed → ℕ → {A : Type 0} → (What → List A) → List A

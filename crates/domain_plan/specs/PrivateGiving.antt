@@ -8,7 +8,7 @@ use Rattle.domain_plan.specs.declared.giving.Given.{Given}
 use Rattle.dl_base.specs.declared.item.Described.{Described}
 use Rattle.dl_base.specs.Sound.{IsSound}
 use Rattle.domain_plan.specs.PrivateLaying.{total, AreLowFrames, AreApart, AreLowRanges}
-use Rattle.domain_plan.specs.Entries.{of_guest, is_read, items_of}
+use Rattle.domain_plan.specs.Entries.{of_guest, is_read}
 use Rattle.domain_plan.specs.Taken.{Passed, all_passed}
 use Rattle.domain_plan.specs.GuestMaps.{guest_ranges}
 use Rattle.domain_plan.specs.Plans.{said_by, static_memory, region_of, port_of}
@@ -28,11 +28,11 @@ pub record Gives (number : ℕ) (drawn : List FrameRange) (passed : List Passed)
   pub shared : given.shared ≡ said_by passed number region_of
   pub ports : given.ports ≡ said_by passed number port_of
 
--- a guest's items are sound, what it drew is as much as it asked for, and what it is mapped to is apart and low
-pub record IsReady (number : ℕ) (guest : Guest) (drawn : List FrameRange) : Type 0 where
-  pub sound : All (λ (described : Described). IsSound described.what) (items_of guest)
+-- these items of a guest are sound, what it drew is as much as it asked for, and what it is mapped to is apart and low
+pub record IsReady (number : ℕ) (guest : Guest) (items : List Described) (drawn : List FrameRange) : Type 0 where
+  pub sound : All (λ (described : Described). IsSound described.what) items
   pub few : guest.domain.pages ≤ 2 ^ 22
   pub few_drawn : total drawn ≤ 2 ^ 22
   pub low : AreLowFrames drawn
-  pub apart : AreApart (guest_ranges (all_passed [] (of_guest number (is_read guest.partial) (items_of guest))) number drawn)
-  pub low_ranges : AreLowRanges (guest_ranges (all_passed [] (of_guest number (is_read guest.partial) (items_of guest))) number drawn)
+  pub apart : AreApart (guest_ranges (all_passed [] (of_guest number (is_read guest.partial) items)) number drawn)
+  pub low_ranges : AreLowRanges (guest_ranges (all_passed [] (of_guest number (is_read guest.partial) items)) number drawn)

@@ -2,11 +2,11 @@
 use Rattle.dl_base.specs.Maps.{target_of, holds_page}
 use Rattle.std.specs.Prelude.{◌≡◌, true, None, ℕ, ◌+◌, ◌/◌, ◌^◌, ◌<◌, ◌≤◌, List, [], ◌∷◌}
 use Rattle.dl_base.specs.declared.ranges.FrameRange.{FrameRange}
-use Rattle.dl_base.specs.declared.ranges.Kind.TheVariants.{Ram, Device, Shared}
+use Rattle.dl_base.specs.declared.ranges.Kind.TheVariants.{Ram, Device}
 use Rattle.dl_base.specs.declared.ranges.MapRange.{MapRange}
 use Rattle.dl_base.specs.declared.item.What.{What}
 use Rattle.dl_base.specs.declared.item.What.TheVariants as whats
-use Rattle.domain_plan.specs.GuestMaps.{onto}
+use Rattle.domain_plan.specs.GuestMaps.{onto, region_maps}
 
 -- how many pages several ranges have
 abbrev pub total : List FrameRange → ℕ
@@ -23,7 +23,7 @@ abbrev pub maps_by : What → List FrameRange → List MapRange
 maps_by what pages = elim what as (λ _. List MapRange) [
   | whats.Static at ↦ onto Ram (at.base / 4096) pages
   | whats.Range host size guest ↦ onto Device (host / 4096) pages
-  | whats.Shared id host guest size owner ↦ onto Shared (host / 4096) pages
+  | whats.Shared id host guest size owner ↦ region_maps host pages
   | _ ↦ []
 ]
 

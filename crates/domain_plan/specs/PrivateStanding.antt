@@ -141,7 +141,7 @@ abbrev pub overlap_in : Bool → Option Why → Option Why
 overlap_in on_layout other = if on_layout then Some (whys.GuestOverlap layout) else other
 
 -- what the names of the earlier regions say against one
-abbrev pub naming_reasons : Option ℕ → List ℕ → ℕ → ℕ → Bool → List Passed → Option Why
+abbrev pub naming_reasons : Option ℕ → List ℕ → Option ℕ → ℕ → Bool → List Passed → Option Why
 naming_reasons guest id host size owns before =
     option_or (naming_first (λ passed. belongs_to guest passed && is_region id (what_of passed)) whys.ShmTwice before)
     (option_or (unlike (whats.Shared id host 0 size false) (find (λ (passed : Passed). is_region id (what_of passed)) before))

@@ -1,5 +1,5 @@
 -- The reasons against an item that need the host's memory or the items before it, one by one.
-use Rattle.std.specs.Prelude.{ℕ, ◌==◌, ◌&&◌, nat_le, bytes_eq, not, is_some, Bool, true, false, if◌then◌else◌, List, [], ◌∷◌, find, map, Option, Some, None, option_map}
+use Rattle.std.specs.Prelude.{ℕ, ◌==◌, ◌&&◌, nat_le, bytes_eq, not, is_some, is_none, Bool, true, false, if◌then◌else◌, List, [], ◌∷◌, find, map, Option, Some, None, option_map}
 use Rattle.std.specs.List.{list_any}
 use Rattle.dl_base.specs.declared.ranges.FrameRange.{FrameRange}
 use Rattle.dl_base.specs.declared.item.Item.{Item}
@@ -119,17 +119,22 @@ irq_of_another before number mine = naming_first (λ passed. of_another_guest mi
 abbrev pub shm_twice : List Passed → Passed → Option Why
 shm_twice before mine = naming_first (λ passed. of_one_guest mine passed && are_one_region (what_of mine) (what_of passed)) whys.ShmTwice before
 
--- two regions have one host base and size
+-- both regions have one host base, or neither has any
+abbrev pub is_same_host : Option ℕ → Option ℕ → Bool
+is_same_host None other = is_none other
+is_same_host (Some host) other = elim other as (λ _. Bool) [ None ↦ false | Some base ↦ host == base ]
+
+-- two regions have one host base, or neither has any, and one size
 abbrev pub have_one_base : What → What → Bool
-have_one_base (whats.Shared id host guest size owner) (whats.Shared other_id other_host other_guest other_size other_owner) = (host == other_host) && (size == other_size)
+have_one_base (whats.Shared id host guest size owner) (whats.Shared other_id other_host other_guest other_size other_owner) = is_same_host host other_host && (size == other_size)
 have_one_base _ _ = false
 
--- the id's first region, where it has another host base or size
+-- the id's first region, where it has another size or another host base, or just one of the two has a host base
 abbrev pub unlike : What → Option Passed → Option Why
 unlike what None = None
 unlike what (Some passed) = where_so (not (have_one_base what (what_of passed))) (whys.ShmDiffers (item_of passed))
 
--- ShmDiffers: the id's first region has another host base or size
+-- ShmDiffers: the id's first region has another size or another host base, or just one of the two has a host base
 abbrev pub shm_differs : List Passed → Passed → Option Why
 shm_differs before mine = unlike (what_of mine) (find (λ passed. are_one_region (what_of mine) (what_of passed)) before)
 

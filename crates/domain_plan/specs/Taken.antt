@@ -74,6 +74,11 @@ bank_pages k count =
     let low : ℕ = min count (bank_size - k) in
     record { first = 0x40000 + k; count = low } ∷ record { first = 0x200000 + (k + low - bank_size); count = count - low } ∷ []
 
+-- the frames of a region that has a host address
+abbrev pub region_claims : Option ℕ → ℕ → List FrameRange
+region_claims None size = []
+region_claims (Some host) size = touched (record { base = host; size = size }) ∷ []
+
 -- the frames that an item claims
 abbrev pub claims_of : List Passed → Entry → List FrameRange
 claims_of before entry = elim entry.described.what as (λ _. List FrameRange) [
@@ -83,7 +88,7 @@ claims_of before entry = elim entry.described.what as (λ _. List FrameRange) [
   | whats.Module kind at ↦ if is_loaded before at then [] else touched at ∷ []
   | whats.Static at ↦ touched at ∷ []
   | whats.Range host size guest ↦ if is_repeated before entry.guest host size guest then [] else touched (record { base = host; size = size }) ∷ []
-  | whats.Shared id host guest size owner ↦ touched (record { base = host; size = size }) ∷ []
+  | whats.Shared id host guest size owner ↦ region_claims host size
   | _ ↦ []
 ]
 

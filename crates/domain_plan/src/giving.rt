@@ -1,9 +1,10 @@
 // What the items of a guest give it.
-ghost use Rattle.std.specs.Prelude.{◌≡◌, ℕ, ◌+◌, ◌^◌, ◌≤◌, ◌<◌, List, [], ◌∷◌, ◌++◌, map, All, Option, None, Some, IfOk, OnOk};
+ghost use Rattle.std.specs.Prelude.{◌≡◌, ℕ, ◌+◌, ◌^◌, ◌≤◌, ◌<◌, List, [], ◌∷◌, ◌++◌, map, All, Option, None, Some, unwrap_or, IfOk, OnOk};
 ghost use Rattle.dl_base.specs.Sound.{IsSound};
 ghost use Rattle.domain_plan.specs.Entries.{of_guest, is_read, items_of};
 ghost use Rattle.domain_plan.specs.Taken.{Passed, passing, all_passed};
 ghost use Rattle.domain_plan.specs.GuestMaps.{onto, laid};
+ghost use Rattle.domain_plan.specs.Regions.{placed_item};
 ghost use Rattle.domain_plan.specs.Plans.{static_memory, region_of, port_of};
 ghost use Rattle.domain_plan.specs.PrivateStanding.{Stands, entry_of};
 ghost use Rattle.domain_plan.specs.PrivateGiving.{irq_of, Gives};
@@ -12,6 +13,7 @@ ghost use Rattle.domain_plan.specs.PrivateLaying.{total, AreLowFrames, maps_by};
 use crate::checking::{is_read, partial_items};
 use crate::described::Guest;
 use crate::passing::takes_of;
+use crate::runs::{Run, placed_item};
 use crate::state::{Owner, State};
 use crate::takes::BANK_SIZE;
 use dl_base::{Bytes, Described, FrameRange, Kind, List, MapRange, What};
@@ -134,7 +136,10 @@ fn push_maps(
     match what {
         What::Static { at } => push_onto(ranges, Kind::Ram, at.base / 4096, pages),
         What::Range { host, .. } => push_onto(ranges, Kind::Device, *host / 4096, pages),
-        What::Shared { host, .. } => push_onto(ranges, Kind::Shared, *host / 4096, pages),
+        What::Shared { host, .. } => match *host {
+            Some(host) => push_onto(ranges, Kind::Shared, host / 4096, pages),
+            None => Ok(()),
+        },
         _ => Ok(()),
     }
 }
@@ -198,37 +203,69 @@ fn give_item(
     Ok(())
 }
 
-/// Passes items of a guest in their order.
+/// What was placed, or else the item as it stands.
+fn placed_or<'a>(placed: &'a Option<Described>, described: &'a Described) -> &'a Described
+    ensures { result.now ≡ unwrap_or placed.now described.now }
+{
+    match placed {
+        Some(placed) => placed,
+        None => described,
+    }
+}
+
+/// Passes one item of a guest, its region at its host address.
+fn give_placed(
+    given: &mut Given,
+    alloc: Global,
+    owner: Owner,
+    runs: &[Run],
+    described: &Described,
+) -> Result<(), AllocError>
+    requires small { given.old.state.static_pages ≤ 2 ^ 28 }
+    requires sound { IsSound (placed_item runs.now described.now).what }
+    requires stands { (before : List Passed) × Stands owner.guest before given.old.state }
+    ensures small { OnOk result (given.new.state.static_pages ≤ 2 ^ 28) }
+    ensures given { OnOk result ((number : ℕ) → (drawn : List FrameRange) → (before : List Passed) → owner.guest ≡ Some number → Gives number drawn before given.old → Gives number drawn (before ++ passing before (entry_of owner (placed_item runs.now described.now)) ∷ []) given.new) }
+{
+    let placed = placed_item(alloc, runs, described)?;
+    let item = placed_or(&placed, described);
+    give_item(given, alloc, owner, item)?;
+    Ok(())
+}
+
+/// Passes items of a guest in their order, each region at its host address.
 fn give_items(
     given: &mut Given,
     alloc: Global,
     owner: Owner,
+    runs: &[Run],
     items: &[Described],
 ) -> Result<(), AllocError>
     requires small { given.old.state.static_pages ≤ 2 ^ 28 }
-    requires sound { All (λ described. IsSound described.what) items.now }
+    requires sound { All (λ described. IsSound (placed_item runs.now described).what) items.now }
     requires stands { (number : ℕ) × (drawn : List FrameRange) × (before : List Passed) × (owner.guest ≡ Some number) × Gives number drawn before given.old }
     ensures small { OnOk result (given.new.state.static_pages ≤ 2 ^ 28) }
-    ensures given { OnOk result ((number : ℕ) → (drawn : List FrameRange) → (before : List Passed) → owner.guest ≡ Some number → Gives number drawn before given.old → Gives number drawn (all_passed before (map (entry_of owner) items.now)) given.new) }
+    ensures given { OnOk result ((number : ℕ) → (drawn : List FrameRange) → (before : List Passed) → owner.guest ≡ Some number → Gives number drawn before given.old → Gives number drawn (all_passed before (map (entry_of owner) (map (placed_item runs.now) items.now))) given.new) }
 {
     for described in items {
-        give_item(given, alloc, owner, described)?;
+        give_placed(given, alloc, owner, runs, described)?;
     }
     Ok(())
 }
 
-/// What the items of a guest and the frames that it drew give it.
+/// What the items of a guest, its regions at their host addresses, and the frames that it drew give it.
 pub(crate) fn gather(
     alloc: Global,
     number: u64,
     guest: &Guest,
+    runs: &[Run],
     drawn: &[FrameRange],
 ) -> Result<Given, AllocError>
     requires few { total drawn.now ≤ 2 ^ 22 }
     requires low { AreLowFrames drawn.now }
-    requires sound { All (λ described. IsSound described.what) (items_of guest.now) }
+    requires sound { All (λ described. IsSound (placed_item runs.now described).what) (items_of guest.now) }
     ensures small { IfOk result (λ given. given.state.static_pages ≤ 2 ^ 28) }
-    ensures gathered { IfOk result (λ given. Gives number drawn.now (all_passed [] (of_guest number (is_read guest.now.partial) (items_of guest.now))) given) }
+    ensures gathered { IfOk result (λ given. Gives number drawn.now (all_passed [] (of_guest number (is_read guest.now.partial) (map (placed_item runs.now) (items_of guest.now)))) given) }
 {
     let mut given = Given {
         state: State::new(alloc),
@@ -243,9 +280,21 @@ pub(crate) fn gather(
         guest: Some(number),
         partial_read: is_read(&guest.partial),
     };
-    give_items(&mut given, alloc, owner, guest.domain.items.as_slice())?;
-    give_items(&mut given, alloc, owner, partial_items(&guest.partial))?;
-    give_items(&mut given, alloc, owner, guest.shared.as_slice())?;
-    give_items(&mut given, alloc, owner, guest.ports.as_slice())?;
+    give_items(
+        &mut given,
+        alloc,
+        owner,
+        runs,
+        guest.domain.items.as_slice(),
+    )?;
+    give_items(
+        &mut given,
+        alloc,
+        owner,
+        runs,
+        partial_items(&guest.partial),
+    )?;
+    give_items(&mut given, alloc, owner, runs, guest.shared.as_slice())?;
+    give_items(&mut given, alloc, owner, runs, guest.ports.as_slice())?;
     Ok(given)
 }

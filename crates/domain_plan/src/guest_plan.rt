@@ -10,12 +10,14 @@ ghost use Rattle.domain_plan.specs.GuestMaps.{guest_ranges};
 ghost use Rattle.domain_plan.specs.MapOrder.{in_order};
 ghost use Rattle.domain_plan.specs.PrivateLaying.{total, AreLowFrames};
 ghost use Rattle.domain_plan.specs.Plans.{banks_filled, gic_of, IsGuestPlan};
+ghost use Rattle.domain_plan.specs.Regions.{placed_item};
 ghost use Rattle.domain_plan.specs.PrivateGiving.{IsReady};
 
 use crate::described::{Guest, PartialState};
 use crate::giving::{Given, gather};
 use crate::ordering::{in_order, joined_ranges};
 use crate::planned::GuestPlan;
+use crate::runs::Run;
 use crate::takes::BANK_SIZE;
 use dl_base::{Bytes, FrameRange, List};
 use domain_bindings::Host;
@@ -110,16 +112,17 @@ fn memories_of(
     }
 }
 
-/// What a guest is to be given, by its items and by what it drew.
+/// What a guest is to be given, by its items, by the runs of regions and by what it drew.
 pub(crate) fn guest_plan(
     alloc: Global,
     host: &Host,
     number: u64,
     guest: &Guest,
+    runs: &[Run],
     drawn: &[FrameRange],
 ) -> Result<GuestPlan, AllocError>
-    requires { IsReady number guest.now drawn.now }
-    ensures { IfOk result (λ plan. IsGuestPlan host.now (all_passed [] (of_guest number (is_read guest.now.partial) (items_of guest.now))) number guest.now drawn.now plan) }
+    requires { IsReady number guest.now (map (placed_item runs.now) (items_of guest.now)) drawn.now }
+    ensures { IfOk result (λ plan. IsGuestPlan host.now (all_passed [] (of_guest number (is_read guest.now.partial) (map (placed_item runs.now) (items_of guest.now)))) number guest.now drawn.now plan) }
 {
     let Given {
         state,
@@ -128,7 +131,7 @@ pub(crate) fn guest_plan(
         irqs,
         shared,
         ports,
-    } = gather(alloc, number, guest, drawn)?;
+    } = gather(alloc, number, guest, runs, drawn)?;
     let sorted = in_order(alloc, ranges.as_slice())?;
     let ranges = joined_ranges(alloc, sorted.as_slice())?;
     let pages = guest.domain.pages + state.static_pages;

@@ -7,7 +7,7 @@ ghost use Rattle.dl_base.specs.declared.item.What.TheVariants as whats;
 ghost use Rattle.frame_ranges.specs.Ranges.{have_common};
 ghost use Rattle.domain_plan.specs.Taken.{Passed, belongs_to, item_of, what_of};
 ghost use Rattle.dl_base.specs.Reasons.{where_so};
-ghost use Rattle.domain_plan.specs.Reasons.{naming_first, is_owner, unlike};
+ghost use Rattle.domain_plan.specs.Reasons.{naming_first, is_owner, is_same_host, unlike};
 ghost use Rattle.domain_plan.specs.PrivateStanding.{Stands, claims_taken, is_guest, is_region, is_sought, is_region_at, naming_reasons, landing_reasons};
 
 use crate::reasons::{Takes, lie_in};
@@ -119,11 +119,24 @@ fn first_other_item<'a>(
     }
 }
 
-/// Whether a region has another host base or size.
-fn is_unlike(region: &Region, host: u64, size: u64) -> bool
-    ensures { result ≡ not ((host == region.now.host) && (size == region.now.size)) }
+/// Whether both regions have one host base, or neither has any.
+fn is_same_host(host: Option<u64>, other: Option<u64>) -> bool
+    ensures { result ≡ is_same_host host other }
 {
-    if host != region.host {
+    match host {
+        None => other.is_none(),
+        Some(host) => match other {
+            None => false,
+            Some(base) => host == base,
+        },
+    }
+}
+
+/// Whether a region has another size or another host base, or just one of the two has a host base.
+fn is_unlike(region: &Region, host: Option<u64>, size: u64) -> bool
+    ensures { result ≡ not (is_same_host host region.now.host && (size == region.now.size)) }
+{
+    if !is_same_host(host, region.host) {
         return true;
     }
     size != region.size
@@ -163,8 +176,8 @@ impl State {
         self.region_item(id, owner.guest, true, true)
     }
 
-    /// The first region of the id, where it has another host base or size.
-    fn unlike_first(&self, owner: Owner, id: &[u8], host: u64, size: u64) -> Option<&Item>
+    /// The first region of the id, where it has another size or another host base, or just one of the two has a host base.
+    fn unlike_first(&self, owner: Owner, id: &[u8], host: Option<u64>, size: u64) -> Option<&Item>
         ensures { (before : List Passed) → Stands owner.guest before self.now →
             option_map (λ item. whys.ShmDiffers item.now) result ≡ unlike (whats.Shared id.now host 0 size false) (find (λ passed. is_region id.now (what_of passed)) before) }
     {
@@ -216,13 +229,13 @@ impl State {
         }
     }
 
-    /// ShmDiffers where the first region of the id has another host base or size.
+    /// ShmDiffers where the first region of the id has another size or another host base, or just one of the two has a host base.
     fn shm_differs(
         &self,
         alloc: Global,
         owner: Owner,
         id: &[u8],
-        host: u64,
+        host: Option<u64>,
         size: u64,
     ) -> Result<Option<Why>, AllocError>
         ensures { IfOk result (λ why. (before : List Passed) → Stands owner.guest before self.now →
@@ -256,7 +269,7 @@ impl State {
         alloc: Global,
         owner: Owner,
         id: &[u8],
-        host: u64,
+        host: Option<u64>,
         size: u64,
         owns: bool,
     ) -> Result<Option<Why>, AllocError>

@@ -114,7 +114,10 @@ impl State {
                     one_range(alloc, touched_from(*host, *size))
                 }
             }
-            What::Shared { host, size, .. } => one_range(alloc, touched_from(*host, *size)),
+            What::Shared { host, size, .. } => match *host {
+                Some(host) => one_range(alloc, touched_from(host, *size)),
+                None => Ok(Vec::new(alloc)),
+            },
             _ => Ok(Vec::new(alloc)),
         }
     }

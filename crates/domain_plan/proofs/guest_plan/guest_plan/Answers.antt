@@ -1,10 +1,14 @@
-use Rattle.std.proofs.Common.{◌≡◌, ℕ, ◌+◌, Bool, cond, List, [], Some, refl, sym, ap, subst, ◌∙◌}
-use Rattle.std.specs.Prelude.{◌==◌, ◌&&◌}
+use Rattle.std.proofs.Common.{◌≡◌, ℕ, ◌+◌, Bool, cond, List, [], ◌∷◌, map, Some, refl, sym, ap, subst, ◌∙◌}
+use Rattle.std.specs.Prelude.{◌==◌, ◌&&◌, All}
 use Rattle.std.specs.List.{list_any}
+use Rattle.std.proofs.lemmas.List.Elements.{All-nil, All-cons, All-head, All-tail}
 use Rattle.dl_base.specs.Consecutive.{numbers}
 use Rattle.dl_base.specs.Maps.{AreMapRanges}
+use Rattle.dl_base.specs.Sound.{IsSound}
+use Rattle.dl_base.specs.declared.item.Described.{Described}
 use Rattle.dl_base.specs.declared.ranges.MapRange.{MapRange}
 use Rattle.domain_plan.specs.Entries.{of_guest, is_read, items_of}
+use Rattle.domain_plan.specs.Regions.{placed_item}
 use Rattle.domain_plan.specs.Taken.{Passed, what_of, belongs_to, is_direct, all_passed}
 use Rattle.domain_plan.specs.Reasons.{is_irq}
 use Rattle.domain_plan.specs.GuestMaps.{guest_ranges}
@@ -15,16 +19,25 @@ use Rattle.domain_plan.proofs.MapResult.{IsMapOf, sorted_in_order, map_result}
 use Rattle.domain_plan.proofs.SpiLemmas.{filter_same, irqs_tell}
 use Rattle.domain_plan.proofs.guest_plan.guest_plan.Goals as goal
 
+sound_of : (f : Described → Described) (items : List Described) → All (λ (one : Described). IsSound one.what) (map f items) → All (λ (one : Described). IsSound (f one).what) items
+sound_of f [] all = All-nil (λ (one : Described). IsSound (f one).what)
+sound_of f (item ∷ items) all =
+    All-cons (λ (one : Described). IsSound (f one).what) item items (All-head (λ (one : Described). IsSound one.what) (f item) (map f items) all)
+    (sound_of f items (All-tail (λ (one : Described). IsSound one.what) (f item) (map f items) all))
+
+pub gather-requires-clause-sound : goal.gather-requires-clause-sound
+gather-requires-clause-sound c = sound_of (placed_item c.args.runs.now) (items_of c.args.guest.now) c.requires.sound
+
 pub joined_ranges-requires : goal.joined_ranges-requires
 joined_ranges-requires c =
-    let own : List Passed = all_passed [] (of_guest c.args.number (is_read c.args.guest.now.partial) (items_of c.args.guest.now)) in
+    let own : List Passed = all_passed [] (of_guest c.args.number (is_read c.args.guest.now.partial) (map (placed_item c.args.runs.now) (items_of c.args.guest.now))) in
     let ranges : c.as_slice.result.now ≡ guest_ranges own c.args.number c.args.drawn.now = c.as_slice.ensures.value ∙ c.in_ok-state.ensures.gathered.ranges in
     let sorted : c.as_slice-2.result.now ≡ in_order (guest_ranges own c.args.number c.args.drawn.now) = c.as_slice-2.ensures.value ∙ c.in_ok-sorted.ensures ∙ ap in_order ranges in
     subst AreMapRanges (sym sorted) (sorted_in_order (guest_ranges own c.args.number c.args.drawn.now) c.requires.apart c.requires.low_ranges)
 
 pub returns : goal.returns
 returns c =
-    let own : List Passed = all_passed [] (of_guest c.args.number (is_read c.args.guest.now.partial) (items_of c.args.guest.now)) in
+    let own : List Passed = all_passed [] (of_guest c.args.number (is_read c.args.guest.now.partial) (map (placed_item c.args.runs.now) (items_of c.args.guest.now))) in
     let all : List MapRange = guest_ranges own c.args.number c.args.drawn.now in
     let gives = c.in_ok-state.ensures.gathered in
     let ranges : c.as_slice.result.now ≡ guest_ranges own c.args.number c.args.drawn.now = c.as_slice.ensures.value ∙ gives.ranges in

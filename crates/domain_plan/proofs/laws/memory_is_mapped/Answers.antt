@@ -1,4 +1,4 @@
-use Rattle.domain_plan.proofs.MemoryLaw.{memory_is_mapped}
+use Rattle.domain_plan.proofs.PlacedLaws.{memory_is_mapped}
 use Rattle.domain_plan.proofs.laws.memory_is_mapped.Goals as goal
 
 pub returns : goal.returns

@@ -1,25 +1,26 @@
-use Rattle.std.proofs.Common.{◌≡◌, ℕ, List, [], map, Vec, Global, Option, Some, None, Result, Ok, Err, rules, refl, sym, ap, ◌∙◌}
+use Rattle.std.proofs.Common.{◌≡◌, ℕ, List, [], map, Vec, Global, Option, Some, None, Result, Ok, Err, rules, refl, sym, ap, ◌∙◌, arith}
 use Rattle.dl_base.specs.declared.ranges.FrameRange.{FrameRange}
 use Rattle.domain_bindings.specs.declared.host.Host.{Host}
 use Rattle.dl_base.specs.declared.loaded.Loaded.{Loaded}
 use Rattle.domain_plan.specs.declared.described.Guest.{Guest}
 use Rattle.domain_plan.specs.Entries.{joined}
 use Rattle.domain_plan.specs.Refusals.{Refusal, first_refused}
-use Rattle.domain_plan.specs.Draws.{Heaps, free_frames, heaps}
-use Rattle.domain_plan.specs.Plans.{passed_of, outcome, unless_refused}
+use Rattle.domain_plan.specs.Draws.{free_frames, heaps}
+use Rattle.domain_plan.specs.Plans.{Draws, passed_of, placed_of, and_heaps, draws_after, draws, outcome, unless_refused}
+use Rattle.domain_plan.proofs.ClearLemmas.{all_clear}
 use Rattle.domain_plan.proofs.LayoutLemmas.{plans_laid}
 use Rattle.domain_plan.proofs.LowClaims.{all_claims_low}
+use Rattle.domain_plan.proofs.RunSteps.{all_some, ran_for}
 use Rattle.domain_plan.proofs.planning.plan.Goals as goal
 
 -- the outcome, where an item is refused, and where none is
 item_refused : (host : Host) (loads : List Loaded) (guests : List Guest) (refusal : Refusal) → first_refused host [] (joined host loads guests) ≡ Some refusal → outcome host loads guests ≡ Err refusal
 unfolding outcome
-item_refused host loads guests refusal some = ap (λ (o : Option Refusal). unless_refused o (heaps guests (free_frames host.ram (passed_of host loads guests)))) some
+item_refused host loads guests refusal some = ap (λ (o : Option Refusal). unless_refused o (draws guests host.ram (passed_of host loads guests))) some
 
-none_refused : (host : Host) (loads : List Loaded) (guests : List Guest) (free : List ℕ) (o : Result Heaps Refusal) → first_refused host [] (joined host loads guests) ≡ None → free ≡ free_frames host.ram (passed_of host loads guests) → heaps guests free ≡ o → outcome host loads guests ≡ o
+none_refused : (host : Host) (loads : List Loaded) (guests : List Guest) (o : Result Draws Refusal) → first_refused host [] (joined host loads guests) ≡ None → draws guests host.ram (passed_of host loads guests) ≡ o → outcome host loads guests ≡ o
 unfolding outcome
-none_refused host loads guests free o none is drew =
-    ap (λ (one : Option Refusal). unless_refused one (heaps guests (free_frames host.ram (passed_of host loads guests)))) none ∙ ap (heaps guests) (sym is) ∙ drew
+none_refused host loads guests o none drew = ap (λ (one : Option Refusal). unless_refused one (draws guests host.ram (passed_of host loads guests))) none ∙ drew
 
 pub returns-in_err-state-clause-refused : goal.returns-in_err-state-clause-refused
 returns-in_err-state-clause-refused c =
@@ -30,22 +31,38 @@ pub free_pool-requires-clause-low : goal.free_pool-requires-clause-low
 free_pool-requires-clause-low c k d under =
     all_claims_low c.as_slice.result.now (joined c.args.host.now c.args.loads.now c.args.guests.now) (c.as_slice.ensures.value ∙ c.in_ok-state.ensures.passed.1.claims) k d under
 
+pub draw_for_regions-requires : goal.draw_for_regions-requires
+draw_for_regions-requires c =
+    let entries = joined c.args.host.now c.args.loads.now c.args.guests.now in
+    all_some c.as_slice-2.result.now (passed_of c.args.host.now c.args.loads.now c.args.guests.now) (c.as_slice-2.ensures.value ∙ c.in_ok-state.ensures.passed.1.regions)
+    (λ k p at. (all_clear c.args.host.now [] entries c.in_ok-state.ensures.clear c.requires.items k p (omega arith) at).1.sound)
+
+pub returns-in_err-runs-clause-refused : goal.returns-in_err-runs-clause-refused
+returns-in_err-runs-clause-refused c =
+    let handed : c.from_residual-in_err-runs.result ≡ Err (c.in_err-runs.field-0.0) = search rules in
+    let passed = passed_of c.args.host.now c.args.loads.now c.args.guests.now in
+    let free : c.in_ok-pool.pool.free ≡ free_frames c.args.host.now.ram (passed_of c.args.host.now c.args.loads.now c.args.guests.now) = c.in_ok-pool.ensures passed (c.as_slice.ensures.value ∙ c.in_ok-state.ensures.passed.1.claims) in
+    rw handed (λ item why is. none_refused c.args.host.now c.args.loads.now c.args.guests.now (Err (item, why)) c.in_ok-state.ensures.clear
+    (ap (draws_after c.args.guests.now) (ran_for c.args.host.now.ram passed c.as_slice-2.result.now c.in_ok-pool.pool.free (Err (item, why)) (c.as_slice-2.ensures.value ∙ c.in_ok-state.ensures.passed.1.regions) free (c.in_err-runs.ensures.refused item why is))))
+
 pub returns-in_err-drawn-clause-refused : goal.returns-in_err-drawn-clause-refused
 returns-in_err-drawn-clause-refused c =
     let handed : c.from_residual-in_err-drawn.result ≡ Err (c.in_err-drawn.field-0.0) = search rules in
     let passed = passed_of c.args.host.now c.args.loads.now c.args.guests.now in
     let free : c.in_ok-pool.pool.free ≡ free_frames c.args.host.now.ram (passed_of c.args.host.now c.args.loads.now c.args.guests.now) = c.in_ok-pool.ensures passed (c.as_slice.ensures.value ∙ c.in_ok-state.ensures.passed.1.claims) in
-    rw handed (λ item why is. none_refused c.args.host.now c.args.loads.now c.args.guests.now c.in_ok-pool.pool.free (Err (item, why)) c.in_ok-state.ensures.clear free
-    (ap (λ (guests : List Guest). heaps guests c.in_ok-pool.pool.free) (sym c.as_slice-2.ensures) ∙ c.in_err-drawn.ensures.refused item why is))
+    let ran = ran_for c.args.host.now.ram passed c.as_slice-2.result.now c.in_ok-pool.pool.free (Ok (record { runs = c.in_ok-runs.runs; left = c.draw_for_regions.new.pool.free })) (c.as_slice-2.ensures.value ∙ c.in_ok-state.ensures.passed.1.regions) free c.in_ok-runs.ensures.drawn in
+    rw handed (λ item why is. none_refused c.args.host.now c.args.loads.now c.args.guests.now (Err (item, why)) c.in_ok-state.ensures.clear
+    (ap (draws_after c.args.guests.now) ran ∙ ap (and_heaps c.in_ok-runs.runs) (ap (λ (guests : List Guest). heaps guests c.draw_for_regions.new.pool.free) (sym c.as_slice-3.ensures) ∙ c.in_err-drawn.ensures.refused item why is)))
 
 pub returns-clause-planned : goal.returns-clause-planned
 returns-clause-planned c =
     let passed = passed_of c.args.host.now c.args.loads.now c.args.guests.now in
     let free : c.in_ok-pool.pool.free ≡ free_frames c.args.host.now.ram (passed_of c.args.host.now c.args.loads.now c.args.guests.now) = c.in_ok-pool.ensures passed (c.as_slice.ensures.value ∙ c.in_ok-state.ensures.passed.1.claims) in
-    let all : Heaps = record { drawn = map (λ (frames : Vec FrameRange Global). frames.items) c.in_ok-drawn.drawn; left = c.draw_for_guests.new.pool.free } in (
+    let ran = ran_for c.args.host.now.ram passed c.as_slice-2.result.now c.in_ok-pool.pool.free (Ok (record { runs = c.in_ok-runs.runs; left = c.draw_for_regions.new.pool.free })) (c.as_slice-2.ensures.value ∙ c.in_ok-state.ensures.passed.1.regions) free c.in_ok-runs.ensures.drawn in
+    let all : Draws = record { runs = c.in_ok-runs.runs; heaps = record { drawn = map (λ (frames : Vec FrameRange Global). frames.items) c.in_ok-drawn.drawn; left = c.draw_for_guests.new.pool.free } } in (
       all,
-      none_refused c.args.host.now c.args.loads.now c.args.guests.now c.in_ok-pool.pool.free (Ok all) c.in_ok-state.ensures.clear free
-          (ap (λ (guests : List Guest). heaps guests c.in_ok-pool.pool.free) (sym c.as_slice-2.ensures) ∙ c.in_ok-drawn.ensures.drawn),
+      none_refused c.args.host.now c.args.loads.now c.args.guests.now (Ok all) c.in_ok-state.ensures.clear
+          (ap (draws_after c.args.guests.now) ran ∙ ap (and_heaps c.in_ok-runs.runs) (ap (λ (guests : List Guest). heaps guests c.draw_for_regions.new.pool.free) (sym c.as_slice-3.ensures) ∙ c.in_ok-drawn.ensures.drawn)),
       refl,
       c.in_ok-guests.ensures,
     )
@@ -53,12 +70,13 @@ returns-clause-planned c =
 pub guest_plans-requires-clause-drawn : goal.guest_plans-requires-clause-drawn
 guest_plans-requires-clause-drawn c =
     let passed = passed_of c.args.host.now c.args.loads.now c.args.guests.now in
-    let free : c.in_ok-pool.pool.free ≡ free_frames c.args.host.now.ram (passed_of c.args.host.now c.args.loads.now c.args.guests.now) = c.in_ok-pool.ensures passed (c.as_slice.ensures.value ∙ c.in_ok-state.ensures.passed.1.claims) in (
+    let free : c.in_ok-pool.pool.free ≡ free_frames c.args.host.now.ram (passed_of c.args.host.now c.args.loads.now c.args.guests.now) = c.in_ok-pool.ensures passed (c.as_slice.ensures.value ∙ c.in_ok-state.ensures.passed.1.claims) in
+    let ran = ran_for c.args.host.now.ram passed c.as_slice-2.result.now c.in_ok-pool.pool.free (Ok (record { runs = c.in_ok-runs.runs; left = c.draw_for_regions.new.pool.free })) (c.as_slice-2.ensures.value ∙ c.in_ok-state.ensures.passed.1.regions) free c.in_ok-runs.ensures.drawn in (
       c.draw_for_guests.new.pool.free,
-      ap (heaps c.args.guests.now) (sym free) ∙ ap (λ (guests : List Guest). heaps guests c.in_ok-pool.pool.free) (sym c.as_slice-2.ensures) ∙ c.in_ok-drawn.ensures.drawn,
+      ap (draws_after c.args.guests.now) ran ∙ ap (and_heaps c.in_ok-runs.runs) (ap (λ (guests : List Guest). heaps guests c.draw_for_regions.new.pool.free) (sym c.as_slice-3.ensures) ∙ c.in_ok-drawn.ensures.drawn),
     )
 
 pub returns-clause-layouts : goal.returns-clause-layouts
 returns-clause-layouts c =
-    plans_laid c.args.host.now c.requires.devices (passed_of c.args.host.now c.args.loads.now c.args.guests.now) 0 c.args.guests.now
+    plans_laid c.args.host.now c.requires.devices (placed_of c.in_ok-runs.runs c.args.host.now c.args.loads.now c.args.guests.now) 0 c.args.guests.now
     (map (λ (frames : Vec FrameRange Global). frames.items) c.in_ok-drawn.drawn) c.in_ok-guests.guests c.in_ok-guests.ensures
