@@ -9,8 +9,7 @@ use Rattle.domain_plan.specs.declared.planned.GuestPlan.{GuestPlan}
 use Rattle.domain_plan.specs.declared.planned.Plan.{Plan}
 use Rattle.domain_plan.specs.declared.planned.PlanFault.{PlanFault}
 use Rattle.domain_plan.specs.declared.planned.PlanFault.TheVariants as faults
-use Rattle.domain_plan.specs.Draws.{Heaps}
-use Rattle.domain_plan.specs.Plans.{passed_of, outcome, AreGuestPlans}
+use Rattle.domain_plan.specs.Plans.{Draws, placed_of, outcome, AreGuestPlans}
 use Rattle.guest_images.specs.Walks.{ArePlannedApart}
 use Rattle.tree_plan.specs.Descriptions.{Description}
 use Rattle.tree_plan.specs.TreePlans.{IsFaultOf, is_common, plan_of}
@@ -21,18 +20,18 @@ module _ (description : Description) (host : Host) (guests : List Guest) (are : 
   -- the plan says what guests drew, and what they are given
   abbrev pub IsPlan : Plan → Type 0
   IsPlan plan =
-      (heaps : Heaps) × (outcome host description.loads guests ≡ Ok heaps) × (plan.pool.free ≡ heaps.left) × AreGuestPlans host (passed_of host description.loads guests) 0 guests heaps.drawn plan.guests
+      (draws : Draws) × (outcome host description.loads guests ≡ Ok draws) × (plan.pool.free ≡ draws.heaps.left) × AreGuestPlans host (placed_of draws.runs host description.loads guests) 0 guests draws.heaps.drawn plan.guests
 
   pub planned : (answer : Result Plan PlanFault) → IfOk answer IsPlan → IfOk answer (λ (plan : Plan). plan_of description ≡ Ok (record { guests = plan.guests; free = plan.pool.free }))
   planned (Ok plan) given = tree_planned description host guests are given.0 plan.guests plan.pool.free given.1 given.3 given.2
   planned (Err fault) given = tt
 
   pub sorted : (answer : Result Plan PlanFault) → IfOk answer IsPlan → IfOk answer (λ (plan : Plan). All (λ (guest : GuestPlan). AreMapRanges guest.ranges) plan.guests)
-  sorted (Ok plan) given = (plans_sorted host (passed_of host description.loads guests) 0 guests given.0.drawn plan.guests given.3).0
+  sorted (Ok plan) given = (plans_sorted host (placed_of given.0.runs host description.loads guests) 0 guests given.0.heaps.drawn plan.guests given.3).0
   sorted (Err fault) given = tt
 
   pub merged : (answer : Result Plan PlanFault) → IfOk answer IsPlan → IfOk answer (λ (plan : Plan). All (λ (guest : GuestPlan). AreMerged guest.ranges) plan.guests)
-  merged (Ok plan) given = (plans_sorted host (passed_of host description.loads guests) 0 guests given.0.drawn plan.guests given.3).1
+  merged (Ok plan) given = (plans_sorted host (placed_of given.0.runs host description.loads guests) 0 guests given.0.heaps.drawn plan.guests given.3).1
   merged (Err fault) given = tt
 
   pub apart : (answer : Result Plan PlanFault) → IfOk answer IsPlan → IfOk answer (λ (plan : Plan). ArePlannedApart (is_common description) plan.guests plan.pool.free)

@@ -10,11 +10,10 @@ use Rattle.domain_bindings.specs.declared.host.Host.{Host}
 use Rattle.domain_plan.specs.declared.described.Guest.{Guest}
 use Rattle.domain_plan.specs.declared.planned.GuestPlan.{GuestPlan}
 use Rattle.domain_plan.specs.Apart.{AreApart, is_in_one_region}
-use Rattle.domain_plan.specs.Draws.{Heaps}
 use Rattle.domain_plan.specs.GuestMaps.{guest_ranges}
-use Rattle.domain_plan.specs.Plans.{passed_of, outcome, AreGuestPlans}
+use Rattle.domain_plan.specs.Plans.{Draws, placed_of, outcome, AreGuestPlans}
 use Rattle.domain_plan.specs.Taken.{Passed}
-use Rattle.domain_plan.proofs.GuestsLaw.{guests_are_apart}
+use Rattle.domain_plan.proofs.PlacedLaws.{guests_are_apart}
 use Rattle.guest_images.specs.Walks.{ArePlannedApart, target_in}
 use Rattle.tree_plan.specs.Descriptions.{Description}
 use Rattle.tree_plan.specs.TreePlans.{is_common}
@@ -40,16 +39,16 @@ plan_sends host passed number (guest ∷ guests) (frames ∷ drawn) (plan ∷ pl
     let shift : number + 1 + n ≡ number + suc n = omega arith in
     subst (λ (k : ℕ). IsSent passed k (slice_get drawn n) page target) shift (plan_sends host passed (number + 1) guests drawn plans are.1 n page target e)
 
-module _ (description : Description) (host : Host) (guests : List Guest) (are : AreOf description host guests) (all : Heaps) (plans : List GuestPlan) (free : List ℕ)
-    (is : outcome host description.loads guests ≡ Ok all) (of_guests : AreGuestPlans host (passed_of host description.loads guests) 0 guests all.drawn plans) (left : free ≡ all.left) where
-  law : AreApart (passed_of host description.loads guests) all
+module _ (description : Description) (host : Host) (guests : List Guest) (are : AreOf description host guests) (all : Draws) (plans : List GuestPlan) (free : List ℕ)
+    (is : outcome host description.loads guests ≡ Ok all) (of_guests : AreGuestPlans host (placed_of all.runs host description.loads guests) 0 guests all.heaps.drawn plans) (left : free ≡ all.heaps.left) where
+  law : AreApart (placed_of all.runs host description.loads guests) all.heaps
   law = guests_are_apart host description.loads guests (are_read description host guests are) all is
 
-  sent : (n page : ℕ) (target : Target) → target_in plans n page ≡ Some target → IsSent (passed_of host description.loads guests) n (slice_get all.drawn n) page target
+  sent : (n page : ℕ) (target : Target) → target_in plans n page ≡ Some target → IsSent (placed_of all.runs host description.loads guests) n (slice_get all.heaps.drawn n) page target
   sent n page target e =
       let none : 0 + n ≡ n = omega arith in
-      subst (λ (k : ℕ). IsSent (passed_of host description.loads guests) k (slice_get all.drawn n) page target) none
-      (plan_sends host (passed_of host description.loads guests) 0 guests all.drawn plans of_guests n page target e)
+      subst (λ (k : ℕ). IsSent (placed_of all.runs host description.loads guests) k (slice_get all.heaps.drawn n) page target) none
+      (plan_sends host (placed_of all.runs host description.loads guests) 0 guests all.heaps.drawn plans of_guests n page target e)
 
   pub tree_apart : ArePlannedApart (is_common description) plans free
   unfolding is_common
@@ -59,7 +58,7 @@ module _ (description : Description) (host : Host) (guests : List Guest) (are : 
         let mine = sent one page a at_one in
         let theirs = sent other next b at_other in
         let shared = law.meet one other page next mine.0 theirs.0 a b differ mine.1 theirs.1 mine.2 theirs.2 same in
-        (shared.here, shared.there, ap (λ (passed : List Passed). is_in_one_region passed one other a.frame) (sym (passed_same description host guests are)) ∙ shared.region);
+        (shared.here, shared.there, ap (λ (passed : List Passed). is_in_one_region passed one other a.frame) (sym (passed_same description host guests are all is)) ∙ shared.region);
     unmapped = λ n page target at.
         let mine = sent n page target at in
         ap (λ (frames : List ℕ). is_in frames target.frame) left ∙ law.left_unmapped n page mine.0 target mine.1 mine.2;

@@ -20,24 +20,25 @@ use Rattle.domain_plan.specs.declared.described.Guest.{Guest}
 use Rattle.dl_base.specs.declared.loaded.Loaded.{Loaded}
 use Rattle.domain_plan.specs.declared.planned.GuestPlan.{GuestPlan}
 use Rattle.domain_plan.specs.Arguments.{AreRead}
-use Rattle.domain_plan.specs.Draws.{Heaps}
+use Rattle.domain_plan.specs.Entries.{of_guest, is_read, items_of}
 use Rattle.domain_plan.specs.GuestMaps.{guest_ranges}
 use Rattle.domain_plan.specs.PrivateLaying.{AreApart, AreLowRanges}
 use Rattle.domain_plan.specs.MapOrder.{in_order, joined_ranges}
-use Rattle.domain_plan.specs.Plans.{passed_of, outcome, gic_of, memories_of, spis_of, said_by, region_of, IsGuestPlan, AreGuestPlans}
+use Rattle.domain_plan.specs.Plans.{Draws, placed_of, outcome, gic_of, memories_of, spis_of, said_by, region_of, IsGuestPlan, AreGuestPlans}
 use Rattle.domain_plan.specs.Reasons.{layout_at}
-use Rattle.domain_plan.specs.Taken.{Passed}
+use Rattle.domain_plan.specs.Refusals.{Refusal}
+use Rattle.domain_plan.specs.Taken.{Passed, all_passed}
 use Rattle.domain_plan.proofs.ApartLemmas.{outcome_tells}
-use Rattle.domain_plan.proofs.GuestsLaw.{guests_apart}
 use Rattle.domain_plan.proofs.MapResult.{map_result}
-use Rattle.domain_plan.proofs.OwnItems.{own_passed, own_items, same_ranges}
-use Rattle.domain_plan.proofs.ReadyLemmas.{ready}
+use Rattle.domain_plan.proofs.OwnItems.{same_ranges}
+use Rattle.domain_plan.proofs.PlacedGuests.{placed_items}
+use Rattle.domain_plan.proofs.PlacedLaws.{ready_placed, own_placed}
 use Rattle.tree_plan.specs.Descriptions.{Description, host_of, guests_of, frames_as_ranges}
-use Rattle.tree_plan.specs.TreePlans.{guest_plan, guest_plans, items_in, plan_from, plan_of}
+use Rattle.tree_plan.specs.TreePlans.{guest_plan, guest_plans, runs_in, items_in, plan_from, plan_of}
 use Rattle.tree_plan.specs.PrivateHeldGuests.{unheld, unheld_host}
 use Rattle.tree_plan.proofs.FrameRanges.{frames_as_ranges-frames_in}
 use Rattle.tree_plan.proofs.MapRanges.{one_list}
-use Rattle.tree_plan.proofs.Unheld.{passed_unheld, outcome_unheld, plans_unheld, read_held}
+use Rattle.tree_plan.proofs.Unheld.{placed_unheld, outcome_unheld, plans_unheld, read_held}
 use Rattle.tree_plan.proofs.Sound.{all_items_sound}
 use Rattle.tree_plan.proofs.SoundGuests.{all_guests_sound}
 
@@ -87,9 +88,12 @@ module _ (description : Description) (host : Host) (guests : List Guest) (are : 
   outcome_same : outcome host description.loads guests ≡ outcome (host_of description) description.loads (guests_of description)
   outcome_same = sym (outcome_unheld host description.loads guests) ∙ ap₂ (λ (h : Host) (gs : List Guest). outcome h description.loads gs) are.host_is are.guests_are
 
-  pub passed_same : passed_of host description.loads guests ≡ items_in description
+  pub passed_same : (all : Draws) → outcome host description.loads guests ≡ Ok all → placed_of all.runs host description.loads guests ≡ items_in description
   unfolding items_in
-  passed_same = sym (passed_unheld host description.loads guests) ∙ ap₂ (λ (h : Host) (gs : List Guest). passed_of h description.loads gs) are.host_is are.guests_are
+  passed_same all is =
+      sym (placed_unheld host description.loads all.runs guests)
+      ∙ ap₂ (λ (h : Host) (gs : List Guest). placed_of all.runs h description.loads gs) are.host_is are.guests_are
+      ∙ ap (λ (o : Result Draws Refusal). placed_of (runs_in o) (host_of description) description.loads (guests_of description)) (sym (sym outcome_same ∙ is))
 
 -- ---- one plan
 
@@ -134,44 +138,46 @@ plans_are host passed number (guest ∷ guests) (frames ∷ drawn) (plan ∷ pla
     let shift : number + suc k ≡ number + 1 + k = omega arith in
     subst (λ (n : ℕ). AreApart (guest_ranges passed n d) × AreLowRanges (guest_ranges passed n d)) shift (facts (suc k) g d at at_drawn)))
 
-module _ (host : Host) (loads : List Loaded) (guests : List Guest) (all : Heaps) (read : AreRead host loads guests) (is : outcome host loads guests ≡ Ok all) where
-  ranges_fit : (number : ℕ) (guest : Guest) (frames : List FrameRange) → slice_get guests number ≡ Some guest → slice_get all.drawn number ≡ Some frames
-      → AreApart (guest_ranges (passed_of host loads guests) number frames) × AreLowRanges (guest_ranges (passed_of host loads guests) number frames)
+module _ (host : Host) (loads : List Loaded) (guests : List Guest) (all : Draws) (read : AreRead host loads guests) (is : outcome host loads guests ≡ Ok all) where
+  ranges_fit : (number : ℕ) (guest : Guest) (frames : List FrameRange) → slice_get guests number ≡ Some guest → slice_get all.heaps.drawn number ≡ Some frames
+      → AreApart (guest_ranges (placed_of all.runs host loads guests) number frames) × AreLowRanges (guest_ranges (placed_of all.runs host loads guests) number frames)
   ranges_fit number guest frames at at_drawn =
-      let told = outcome_tells host loads guests all is in (
-        guests_apart host loads guests all read told.0 told.1 number frames at_drawn,
-        subst AreLowRanges (sym (same_ranges number (passed_of host loads guests) (own_passed number guest) frames (own_items host loads guests number guest at)))
-            (ready host loads guests all read told.0 told.1 number guest frames at at_drawn).low_ranges,
-      )
+      let made = ready_placed host loads guests all read (outcome_tells host loads guests all is) number guest frames at at_drawn in
+      let own = all_passed [] (of_guest number (is_read guest.partial) (placed_items all.runs (items_of guest))) in
+      let same = sym (same_ranges number (placed_of all.runs host loads guests) own frames (own_placed all.runs host loads guests number guest at)) in
+      (subst AreApart same made.apart, subst AreLowRanges same made.low_ranges)
 
-  pub plans_determined : (plans : List GuestPlan) → AreGuestPlans host (passed_of host loads guests) 0 guests all.drawn plans → plans ≡ guest_plans host (passed_of host loads guests) 0 guests all.drawn
+  pub plans_determined : (plans : List GuestPlan) → AreGuestPlans host (placed_of all.runs host loads guests) 0 guests all.heaps.drawn plans → plans ≡ guest_plans host (placed_of all.runs host loads guests) 0 guests all.heaps.drawn
   plans_determined plans are =
-      plans_are host (passed_of host loads guests) 0 guests all.drawn plans are (λ k guest frames at at_drawn.
+      plans_are host (placed_of all.runs host loads guests) 0 guests all.heaps.drawn plans are (λ k guest frames at at_drawn.
       let none : k ≡ 0 + k = omega arith in
-      subst (λ (n : ℕ). AreApart (guest_ranges (passed_of host loads guests) n frames) × AreLowRanges (guest_ranges (passed_of host loads guests) n frames)) none (ranges_fit k guest frames at at_drawn))
+      subst (λ (n : ℕ). AreApart (guest_ranges (placed_of all.runs host loads guests) n frames) × AreLowRanges (guest_ranges (placed_of all.runs host loads guests) n frames)) none (ranges_fit k guest frames at at_drawn))
 
 -- ---- the plan of a description
 
 module _ (description : Description) (host : Host) (guests : List Guest) (are : AreOf description host guests) where
-  plan_by : (result : Result Heaps (Item × Why)) → outcome host description.loads guests ≡ result → plan_of description ≡ plan_from description result
+  plan_by : (result : Result Draws (Item × Why)) → outcome host description.loads guests ≡ result → plan_of description ≡ plan_from description result
   unfolding plan_of
   plan_by result is = ap (plan_from description) (sym (outcome_same description host guests are) ∙ is)
 
   pub tree_refused : (item : Item) (why : Why) → outcome host description.loads guests ≡ Err (item, why) → plan_of description ≡ Err (item, why)
   tree_refused item why is = plan_by (Err (item, why)) is
 
-  pub tree_planned : (all : Heaps) (plans : List GuestPlan) (free : List ℕ) → outcome host description.loads guests ≡ Ok all → AreGuestPlans host (passed_of host description.loads guests) 0 guests all.drawn plans → free ≡ all.left
+  pub tree_planned : (all : Draws) (plans : List GuestPlan) (free : List ℕ) → outcome host description.loads guests ≡ Ok all → AreGuestPlans host (placed_of all.runs host description.loads guests) 0 guests all.heaps.drawn plans → free ≡ all.heaps.left
       → plan_of description ≡ Ok (record { guests = plans; free = free })
   unfolding items_in
   tree_planned all plans free is of_guests left =
       let whole : outcome (host_of description) description.loads (guests_of description) ≡ Ok all = sym (outcome_same description host guests are) ∙ is in
-      let unheld_plans : AreGuestPlans (unheld_host host) (passed_of host description.loads guests) 0 (map unheld guests) all.drawn plans = plans_unheld host (passed_of host description.loads guests) 0 guests all.drawn plans of_guests in
-      let described : AreGuestPlans (host_of description) (items_in description) 0 (guests_of description) all.drawn plans =
-      subst (λ (h : Host). AreGuestPlans h (items_in description) 0 (guests_of description) all.drawn plans) are.host_is
-      (subst (λ (gs : List Guest). AreGuestPlans (unheld_host host) (items_in description) 0 gs all.drawn plans) are.guests_are
-      (subst (λ (passed : List Passed). AreGuestPlans (unheld_host host) passed 0 (map unheld guests) all.drawn plans) (passed_same description host guests are) unheld_plans)) in
-      let plans_are : plans ≡ guest_plans (host_of description) (items_in description) 0 (guests_of description) all.drawn =
-      plans_determined (host_of description) description.loads (guests_of description) all (whole_read description host guests are) whole plans described in
+      let same : placed_of all.runs (host_of description) description.loads (guests_of description) ≡ items_in description =
+      ap (λ (o : Result Draws Refusal). placed_of (runs_in o) (host_of description) description.loads (guests_of description)) (sym whole) in
+      let unheld_plans : AreGuestPlans (unheld_host host) (placed_of all.runs host description.loads guests) 0 (map unheld guests) all.heaps.drawn plans = plans_unheld host (placed_of all.runs host description.loads guests) 0 guests all.heaps.drawn plans of_guests in
+      let described : AreGuestPlans (host_of description) (items_in description) 0 (guests_of description) all.heaps.drawn plans =
+      subst (λ (h : Host). AreGuestPlans h (items_in description) 0 (guests_of description) all.heaps.drawn plans) are.host_is
+      (subst (λ (gs : List Guest). AreGuestPlans (unheld_host host) (items_in description) 0 gs all.heaps.drawn plans) are.guests_are
+      (subst (λ (passed : List Passed). AreGuestPlans (unheld_host host) passed 0 (map unheld guests) all.heaps.drawn plans) (passed_same description host guests are all is) unheld_plans)) in
+      let plans_are : plans ≡ guest_plans (host_of description) (items_in description) 0 (guests_of description) all.heaps.drawn =
+      subst (λ (passed : List Passed). plans ≡ guest_plans (host_of description) passed 0 (guests_of description) all.heaps.drawn) same
+      (plans_determined (host_of description) description.loads (guests_of description) all (whole_read description host guests are) whole plans (subst (λ (passed : List Passed). AreGuestPlans (host_of description) passed 0 (guests_of description) all.heaps.drawn plans) (sym same) described)) in
       plan_by (Ok all) is
       ∙ sym (ap₂ (λ (ps : List GuestPlan) (frames : List ℕ). Ok (record { guests = ps; free = frames })) plans_are left)
 

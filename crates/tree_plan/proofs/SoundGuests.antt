@@ -174,11 +174,11 @@ partial_none root number (Some partial) = read_none partial root number
 
 regions_none : (number : ℕ) (nodes : List Node) → pages_in (shared_from number nodes) ≡ 0
 regions_none number [] = refl
-regions_none number (node ∷ nodes) = none_more (shared_item number node) (shared_from (number + 1) nodes) (no_pages (item_of parts.Shared node 0) (shared_reason number node) (shared_what node) (by (region node))) (regions_none (number + 1) nodes)
+regions_none number (node ∷ nodes) = none_more (shared_item number node) (shared_from (number + 1) nodes) (no_pages (item_of parts.Shared node 0) (shared_reason number node) (shared_what node) (by (region node) (λ r. whats.Shared (unwrap_or (shared_id node) []) r.host r.guest r.size (is_owner node)) (λ r. refl))) (regions_none (number + 1) nodes)
   where
-    by : (found : Option Window) → static_pages (option_map_or (λ (r : Window). whats.Shared (unwrap_or (shared_id node) []) r.host r.guest r.size (is_owner node)) found whats.Unread) ≡ 0
-    by None = refl
-    by (Some r) = refl
+    by : {R : Type 0} (found : Option R) (says : R → What) → ((r : R) → static_pages (says r) ≡ 0) → static_pages (option_map_or says found whats.Unread) ≡ 0
+    by None says none = refl
+    by (Some r) says none = none r
 
 shared_none : (node : Node) → pages_in (shared_items node) ≡ 0
 unfolding shared_items

@@ -1,5 +1,5 @@
 -- The numbers that nodes have in memory are of no matter to a plan.
-use Rattle.std.proofs.Common.{◌≡◌, ◌∙◌, ap, subst, refl, ℕ, ◌+◌, List, [], ◌∷◌, ◌++◌, map, length, All, Option, Some, None, Result, Err}
+use Rattle.std.proofs.Common.{◌≡◌, ◌∙◌, ap, subst, refl, ℕ, ◌+◌, List, [], ◌∷◌, ◌++◌, map, length, All, Option, Some, None, Result, Ok, Err}
 use Rattle.std.proofs.lemmas.List.Elements.{All-nil, All-cons, All-head, All-tail}
 use Rattle.dl_base.specs.declared.ranges.FrameRange.{FrameRange}
 use Rattle.dl_base.specs.declared.why.Why.TheVariants.{NoRam}
@@ -10,9 +10,11 @@ use Rattle.domain_plan.specs.declared.planned.GuestPlan.{GuestPlan}
 use Rattle.domain_plan.specs.Arguments.{AreRead, AreSound, IsSoundGuest, has_no_fault}
 use Rattle.domain_plan.specs.Draws.{Drawn, Heaps, drawn, heaps, and_drawn, heap_item, free_frames}
 use Rattle.domain_plan.specs.Entries.{Entry, joined, of_host, of_guest, items_of, is_read, load_item, guest_entries}
-use Rattle.domain_plan.specs.Plans.{passed_of, outcome, unless_refused, IsGuestPlan, AreGuestPlans}
+use Rattle.domain_plan.specs.Plans.{passed_of, placed_of, and_heaps, draws_after, draws, outcome, unless_refused, IsGuestPlan, AreGuestPlans}
 use Rattle.domain_plan.specs.Refusals.{Refusal, why, or_later, first_refused}
+use Rattle.domain_plan.specs.Regions.{Runs, requests, runs_drawn, placed}
 use Rattle.domain_plan.specs.Taken.{Passed, passing, all_passed}
+use Rattle.domain_plan.specs.declared.runs.Run.{Run}
 use Rattle.tree_plan.specs.PrivateHeldGuests.{unheld, unheld_host}
 
 entries_unheld : (number : ℕ) (guests : List Guest) → guest_entries number (map unheld guests) ≡ guest_entries number guests
@@ -24,8 +26,8 @@ module _ (host : Host) (loads : List Loaded) where
   pub joined_unheld : (guests : List Guest) → joined (unheld_host host) loads (map unheld guests) ≡ joined host loads guests
   joined_unheld guests = ap (λ (rest : List Entry). of_host host.items ++ of_host (map load_item loads) ++ of_host host.modules ++ rest) (entries_unheld 0 guests)
 
-  pub passed_unheld : (guests : List Guest) → passed_of (unheld_host host) loads (map unheld guests) ≡ passed_of host loads guests
-  passed_unheld guests = ap (all_passed []) (joined_unheld guests)
+  pub placed_unheld : (runs : List Run) (guests : List Guest) → placed_of runs (unheld_host host) loads (map unheld guests) ≡ placed_of runs host loads guests
+  placed_unheld runs guests = ap (λ (entries : List Entry). all_passed [] (placed runs entries)) (joined_unheld guests)
 
 heaps_unheld : (guests : List Guest) (free : List ℕ) → heaps (map unheld guests) free ≡ heaps guests free
 unfolding heaps
@@ -43,6 +45,10 @@ heaps_unheld (guest ∷ guests) free = by (drawn guest.domain.pages free) (heaps
     by None later = refl
     by (Some one) later = ap (and_drawn one.frames) (later one.left)
 
+draws_unheld : (guests : List Guest) (o : Result Runs Refusal) → draws_after (map unheld guests) o ≡ draws_after guests o
+draws_unheld guests (Err refusal) = refl
+draws_unheld guests (Ok runs) = ap (and_heaps runs.runs) (heaps_unheld guests runs.left)
+
 -- the reasons look at the host's memory and devices, and at no number of a node
 refused_unheld : (host : Host) (before : List Passed) (entries : List Entry) → first_refused (unheld_host host) before entries ≡ first_refused host before entries
 unfolding first_refused
@@ -53,9 +59,9 @@ refused_unheld host before (entry ∷ entries) =
 pub outcome_unheld : (host : Host) (loads : List Loaded) (guests : List Guest) → outcome (unheld_host host) loads (map unheld guests) ≡ outcome host loads guests
 unfolding outcome
 outcome_unheld host loads guests =
-    ap (λ (entries : List Entry). unless_refused (first_refused (unheld_host host) [] entries) (heaps (map unheld guests) (free_frames host.ram (all_passed [] entries)))) (joined_unheld host loads guests)
-    ∙ ap (λ (refused : Option Refusal). unless_refused refused (heaps (map unheld guests) (free_frames host.ram (passed_of host loads guests)))) (refused_unheld host [] (joined host loads guests))
-    ∙ ap (unless_refused (first_refused host [] (joined host loads guests))) (heaps_unheld guests (free_frames host.ram (passed_of host loads guests)))
+    ap (λ (entries : List Entry). unless_refused (first_refused (unheld_host host) [] entries) (draws (map unheld guests) host.ram (all_passed [] entries))) (joined_unheld host loads guests)
+    ∙ ap (λ (refused : Option Refusal). unless_refused refused (draws (map unheld guests) host.ram (passed_of host loads guests))) (refused_unheld host [] (joined host loads guests))
+    ∙ ap (unless_refused (first_refused host [] (joined host loads guests))) (draws_unheld guests (runs_drawn (requests [] (passed_of host loads guests)) (free_frames host.ram (passed_of host loads guests))))
 
 -- the plans of guests are those of guests without the numbers of their nodes
 plan_unheld : (host : Host) (passed : List Passed) (number : ℕ) (guest : Guest) (frames : List FrameRange) (plan : GuestPlan) → IsGuestPlan host passed number guest frames plan → IsGuestPlan (unheld_host host) passed number (unheld guest) frames plan

@@ -6,11 +6,11 @@ use Rattle.domain_plan.specs.declared.described.Guest.{Guest}
 use Rattle.domain_plan.specs.declared.planned.GuestPlan.{GuestPlan}
 use Rattle.domain_plan.specs.declared.planned.PlanFault.{PlanFault}
 use Rattle.domain_plan.specs.declared.planned.PlanFault.TheVariants as faults
+use Rattle.domain_plan.specs.declared.runs.Run.{Run}
 use Rattle.domain_plan.specs.Apart.{is_in_one_region}
-use Rattle.domain_plan.specs.Draws.{Heaps}
 use Rattle.domain_plan.specs.GuestMaps.{guest_ranges}
 use Rattle.domain_plan.specs.MapOrder.{in_order, joined_ranges}
-use Rattle.domain_plan.specs.Plans.{passed_of, outcome, memories_of, spis_of, region_of, port_of, gic_of, said_by}
+use Rattle.domain_plan.specs.Plans.{Draws, placed_of, outcome, memories_of, spis_of, region_of, port_of, gic_of, said_by}
 use Rattle.domain_plan.specs.Reasons.{layout_at}
 use Rattle.domain_plan.specs.Refusals.{Refusal}
 use Rattle.domain_plan.specs.Taken.{Passed}
@@ -43,14 +43,20 @@ pub record TreePlan : Type 0 where
   pub guests : List GuestPlan
   pub free : List ℕ
 
--- all described items, with what they take
-unfoldable pub items_in : Description → List Passed
-items_in description = passed_of (host_of description) description.loads (guests_of description)
+-- the runs that regions drew; none where an item is refused
+abbrev pub runs_in : Result Draws Refusal → List Run
+runs_in (Err refusal) = []
+runs_in (Ok draws) = draws.runs
 
--- the plan, where what the guests drew is known
-abbrev pub plan_from : Description → Result Heaps Refusal → Result TreePlan Refusal
+-- all described items, with what they take, each region at its host address
+unfoldable pub items_in : Description → List Passed
+items_in description =
+    placed_of (runs_in (outcome (host_of description) description.loads (guests_of description))) (host_of description) description.loads (guests_of description)
+
+-- the plan, where what was drawn is known
+abbrev pub plan_from : Description → Result Draws Refusal → Result TreePlan Refusal
 plan_from description (Err refusal) = Err refusal
-plan_from description (Ok heaps) = Ok (record { guests = guest_plans (host_of description) (items_in description) 0 (guests_of description) heaps.drawn; free = heaps.left })
+plan_from description (Ok draws) = Ok (record { guests = guest_plans (host_of description) (items_in description) 0 (guests_of description) draws.heaps.drawn; free = draws.heaps.left })
 
 -- the plan of a description, or its first item that is refused, with the first reason against it
 unfoldable pub plan_of : Description → Result TreePlan Refusal
