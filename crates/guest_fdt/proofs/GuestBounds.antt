@@ -1,8 +1,8 @@
 -- The plan of a guest keeps to what its tree can hold.
-use Rattle.std.proofs.Common.{◌≡◌, ◌∙◌, ap, sym, subst, refl, ℕ, ◌+◌, ◌-◌, ◌/◌, ◌^◌, ◌<◌, ◌≤◌, min, Bool, true, false, cond, List, [], ◌∷◌, filter, All, Some, arith}
+use Rattle.std.proofs.Common.{◌≡◌, ◌∙◌, ap, sym, subst, refl, ℕ, ◌+◌, ◌-◌, ◌/◌, ◌^◌, ◌<◌, ◌≤◌, min, Bool, true, false, cond, List, [], ◌∷◌, filter, All, Option, Some, None, arith}
 use Rattle.std.specs.Prelude.{IsTrue, flat_map, sum_by, nat_lt}
 use Rattle.std.proofs.lemmas.List.Elements.{All-append, All-nil, All-cons, All-head, All-tail, All-map}
-use Rattle.dl_base.specs.Sound.{AreWholePages, IsSound}
+use Rattle.dl_base.specs.Sound.{AreWholePages, IsSound, IsSoundRegion}
 use Rattle.dl_base.specs.declared.item.Described.{Described}
 use Rattle.dl_base.specs.declared.item.What.{What}
 use Rattle.dl_base.specs.declared.item.What.TheVariants as whats
@@ -111,10 +111,15 @@ RegionText region = IsTrue (is_text region.0)
 abbrev pub PortLow : ℕ × ℕ × ℕ → Type 0
 PortLow port = (port.0 < 2 ^ 32) × (port.1 < 2 ^ 32) × (port.2 < 2 ^ 32)
 
+guest_whole : (host : Option ℕ) (guest size : ℕ) → IsSoundRegion host guest size → AreWholePages guest size
+guest_whole None guest size sound = sound
+guest_whole (Some base) guest size sound = sound.1
+
 region_low : (what : What) → IsSound what → All RegionLow (region_of what)
 region_low (whats.Shared id host guest size owner) sound =
-    let is : touched (record { base = guest; size = size }) ≡ record { first = guest / 4096; count = size / 4096 } = touched_whole guest size sound.1 in
-    let fits : guest / 4096 + size / 4096 ≤ 2 ^ 28 = pages_low guest size sound.1 in
+    let whole : AreWholePages guest size = guest_whole host guest size sound in
+    let is : touched (record { base = guest; size = size }) ≡ record { first = guest / 4096; count = size / 4096 } = touched_whole guest size whole in
+    let fits : guest / 4096 + size / 4096 ≤ 2 ^ 28 = pages_low guest size whole in
     All-cons RegionLow (id, (touched (record { base = guest; size = size })).first, (touched (record { base = guest; size = size })).count) []
     (subst (λ (range : FrameRange). range.first + range.count ≤ 2 ^ 28) (sym is) fits) (All-nil RegionLow)
 region_low _ sound = All-nil RegionLow

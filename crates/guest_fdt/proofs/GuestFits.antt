@@ -16,7 +16,6 @@ use Rattle.fdt_tree.specs.Tree.{Bytes, Tree, property_of}
 use Rattle.fdt_nodes.specs.Nodes.{Node, children, node_found, shown}
 use Rattle.fdt_nodes.specs.NodeItems.{item_of}
 use Rattle.fdt_nodes.specs.Values.{string_of}
-use Rattle.fdt_nodes.specs.declared.entries.Window.{Window}
 use Rattle.domain_bindings.specs.Domains.{guest_nodes, is_domain, said_cpus}
 use Rattle.domain_bindings.specs.Heads.{head_item, head_reason, head_reasons, head_what, cpus_of, memory_of, is_direct_alone, is_past_limit, is_too_large}
 use Rattle.domain_bindings.specs.Modules.{module_name, module_reason, module_what}
@@ -86,12 +85,12 @@ text_fits (Some value) = by (string_of value) refl
     by (Some text) is = string-is-text value text is
 
 region_fits : (node : Node) → Fits (shared_what node)
-region_fits node = by (region node) (text_fits (property_of node.properties (codes "xen,shm-id")))
+region_fits node =
+    by (region node) (λ r. whats.Shared (unwrap_or (shared_id node) []) r.host r.guest r.size (is_owner node)) (λ r. text_fits (property_of node.properties (codes "xen,shm-id")))
   where
-    by : (found : Option Window) → IsTrue (is_text (unwrap_or (shared_id node) []))
-        → Fits (option_map_or (λ (r : Window). whats.Shared (unwrap_or (shared_id node) []) r.host r.guest r.size (is_owner node)) found whats.Unread)
-    by None text = tt
-    by (Some r) text = text
+    by : {R : Type 0} (found : Option R) (says : R → What) → ((r : R) → Fits (says r)) → Fits (option_map_or says found whats.Unread)
+    by None says fits = tt
+    by (Some r) says fits = fits r
 
 shared_fits : (number : ℕ) (node : Node) → Fits (shared_item number node).what
 shared_fits number node = described_fits (item_of parts.Shared node 0) (shared_reason number node) (shared_what node) (λ none. region_fits node)

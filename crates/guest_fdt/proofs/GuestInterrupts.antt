@@ -17,7 +17,7 @@ use Rattle.domain_plan.specs.Plans.{spis_of, said_by}
 use Rattle.domain_plan.specs.Reasons.{is_irq}
 use Rattle.domain_plan.specs.Taken.{Passed, belongs_to, what_of}
 use Rattle.domain_plan.proofs.MemoryLemmas.{whats_in}
-use Rattle.domain_plan.proofs.OwnItems.{own_entries, own_of, own_passed}
+use Rattle.domain_plan.proofs.OwnItems.{own_entries}
 use Rattle.domain_plan.proofs.SpiLemmas.{filter_same, irqs_tell}
 use Rattle.static_links.specs.Ports.{port_items}
 use Rattle.static_links.specs.Shared.{shared_items}
@@ -27,7 +27,6 @@ use Rattle.guest_fdt.specs.Copies.{copied_paths, found_in}
 use Rattle.guest_fdt.specs.Described.{partial_devices}
 use Rattle.guest_fdt.specs.Laws.{is_no_memory}
 use Rattle.guest_fdt.specs.Listed.{interrupts_in}
-use Rattle.guest_fdt.proofs.GuestBounds.{said_own}
 use Rattle.guest_fdt.proofs.GuestItems.{own_rest}
 use Rattle.guest_fdt.proofs.GuestMemory.{own_says, ports_say, shared_says, described_head}
 use Rattle.guest_fdt.proofs.InterruptLemmas.{are_sound, interrupts-of-items, irq_numbers, sound-parts, whole-sound}
@@ -94,12 +93,12 @@ none_read : (numbers : List ℕ) → filter (is_of (irq_numbers [])) numbers ≡
 unfolding interrupts_in
 none_read numbers = filter_none numbers
 
-pub guest_interrupts : (root : Tree) (number : ℕ) (node : Node) (partial : Option Tree) (passed : List Passed) → own_of number passed ≡ own_of number (own_passed number (full root number node partial))
+pub guest_interrupts : (root : Tree) (number : ℕ) (node : Node) (partial : Option Tree) (passed : List Passed) → said_by passed number irq_of ≡ flat_map irq_of (whats_in (items_of (full root number node partial)))
     → has_no_fault (own_entries number (full root number node partial)) ≡ true → spis_of passed number ≡ interrupts_in (partial_devices partial)
-guest_interrupts root number node partial passed same clear = to_read ∙ by partial (read_sound root number node partial clear)
+guest_interrupts root number node partial passed given clear = to_read ∙ by partial (read_sound root number node partial clear)
   where
     said : said_by passed number irq_of ≡ irq_numbers (partial_items (partial_state root number partial))
-    said = said_own irq_of number (full root number node partial) passed same ∙ irqs_said (items_of (full root number node partial)) ∙ irqs_read root number node partial
+    said = given ∙ irqs_said (items_of (full root number node partial)) ∙ irqs_read root number node partial
 
     to_read : spis_of passed number ≡ filter (is_of (irq_numbers (partial_items (partial_state root number partial)))) (numbers 0 988)
     to_read =

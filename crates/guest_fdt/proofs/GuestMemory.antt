@@ -17,7 +17,6 @@ use Rattle.dl_base.specs.Reasons.{described}
 use Rattle.fdt_tree.specs.Tree.{Tree}
 use Rattle.fdt_nodes.specs.Nodes.{Node, shown}
 use Rattle.fdt_nodes.specs.NodeItems.{item_of}
-use Rattle.fdt_nodes.specs.declared.entries.Window.{Window}
 use Rattle.domain_bindings.specs.Domains.{said_direct, said_pages}
 use Rattle.domain_bindings.specs.Heads.{head_item, head_reason, head_what, heap_pages, is_direct, is_static, memory_of}
 use Rattle.domain_bindings.specs.Modules.{module_name, module_reason, module_what}
@@ -49,12 +48,13 @@ module _ (P : What → Type 0) (unread : P whats.Unread) where
   pub described_head : ((cpus pages : ℕ) (spis : Option ℕ) (direct console : Bool) → P (whats.Head cpus pages spis direct console)) → (number : ℕ) (node : Node) → P (head_item number node).what
   described_head head number node = described_says P unread (item_of parts.Head node 0) (head_reason number node) (head_what node) (head _ _ _ _ _)
 
-  region_says : ((id : List ℕ) (host guest size : ℕ) (owner : Bool) → P (whats.Shared id host guest size owner)) → (number : ℕ) (node : Node) → P (shared_item number node).what
-  region_says shared number node = described_says P unread (item_of parts.Shared node 0) (shared_reason number node) (shared_what node) (by (region node))
+  region_says : ((id : List ℕ) (host : Option ℕ) (guest size : ℕ) (owner : Bool) → P (whats.Shared id host guest size owner)) → (number : ℕ) (node : Node) → P (shared_item number node).what
+  region_says shared number node = described_says P unread (item_of parts.Shared node 0) (shared_reason number node) (shared_what node)
+      (by (region node) (λ r. whats.Shared (unwrap_or (shared_id node) []) r.host r.guest r.size (is_owner node)) (λ r. shared (unwrap_or (shared_id node) []) r.host r.guest r.size (is_owner node)))
     where
-      by : (found : Option Window) → P (option_map_or (λ (r : Window). whats.Shared (unwrap_or (shared_id node) []) r.host r.guest r.size (is_owner node)) found whats.Unread)
-      by None = unread
-      by (Some r) = shared (unwrap_or (shared_id node) []) r.host r.guest r.size (is_owner node)
+      by : {R : Type 0} (found : Option R) (says : R → What) → ((r : R) → P (says r)) → P (option_map_or says found whats.Unread)
+      by None says each = unread
+      by (Some r) says each = each r
 
   port_says : ((port peer peer_port : ℕ) → P (whats.Port port peer peer_port)) → (root : Tree) (before : List Described) (node : Node) → P (port_item root before node).what
   port_says port root before node = described_says P unread (item_of parts.Port node 0) (port_reason root before node) (port_what root node) (by (ends_of node.properties) (other_end root node))
@@ -88,7 +88,7 @@ module _ (P : What → Type 0) (unread : P whats.Unread) where
       (λ guest path held k interrupt. described_says P unread (item_in parts.Irq guest path k) (interrupt_reason held interrupt) (whats.Irq interrupt.number) (irq interrupt.number))
 
   -- of its shared regions
-  pub shared_says : (node : Node) → ((id : List ℕ) (host guest size : ℕ) (owner : Bool) → P (whats.Shared id host guest size owner)) → All (λ (item : Described). P item.what) (shared_items node)
+  pub shared_says : (node : Node) → ((id : List ℕ) (host : Option ℕ) (guest size : ℕ) (owner : Bool) → P (whats.Shared id host guest size owner)) → All (λ (item : Described). P item.what) (shared_items node)
   shared_says node shared = each_of_shared (λ (item : Described). P item.what) node (region_says shared)
 
   -- of its ports
@@ -98,7 +98,7 @@ module _ (P : What → Type 0) (unread : P whats.Unread) where
   -- of all but its head
   pub rest_says : (root : Tree) (number : ℕ) (node : Node) (partial : Option Tree) → (is_static node ≡ true → (list : List BaseSize) → P (whats.StaticList list)) → (is_static node ≡ true → (at : BaseSize) → P (whats.Static at))
       → ((kind : ModuleKind) (at : BaseSize) → P (whats.Module kind at)) → ((gic : ℕ) → P (whats.Partial gic)) → P whats.Device → ((host size guest : ℕ) → P (whats.Range host size guest)) → ((irq : ℕ) → P (whats.Irq irq))
-      → ((id : List ℕ) (host guest size : ℕ) (owner : Bool) → P (whats.Shared id host guest size owner)) → ((port peer peer_port : ℕ) → P (whats.Port port peer peer_port))
+      → ((id : List ℕ) (host : Option ℕ) (guest size : ℕ) (owner : Bool) → P (whats.Shared id host guest size owner)) → ((port peer peer_port : ℕ) → P (whats.Port port peer peer_port))
       → All (λ (item : Described). P item.what) (rest_items root number node partial)
   rest_says root number node partial list static module_ whole device range irq shared port =
       each_of_rest (λ (item : Described). P item.what) root number node partial (own_says node list static module_) (partial_says root number partial whole device range irq) (shared_says node shared) (ports_say root node port)

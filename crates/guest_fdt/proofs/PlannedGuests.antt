@@ -16,9 +16,8 @@ use Rattle.domain_bindings.specs.declared.host.Host.{Host}
 use Rattle.domain_plan.specs.declared.described.Guest.{Guest}
 use Rattle.domain_plan.specs.declared.planned.GuestPlan.{GuestPlan}
 use Rattle.domain_plan.specs.Arguments.{has_no_fault}
-use Rattle.domain_plan.specs.Draws.{Heaps}
 use Rattle.domain_plan.specs.Entries.{Entry, joined, of_host, load_item, guest_entries}
-use Rattle.domain_plan.specs.Plans.{outcome}
+use Rattle.domain_plan.specs.Plans.{Draws, outcome}
 use Rattle.domain_plan.specs.Refusals.{Refusal}
 use Rattle.domain_plan.specs.Taken.{Passed}
 use Rattle.domain_plan.proofs.ApartLemmas.{outcome_tells}
@@ -126,25 +125,25 @@ front_of description = (of_host (host_of description).items ++ of_host (map load
 
 -- what a plan without a refusal tells of a description
 pub record IsPlanned (description : Description) (plan : TreePlan) : Type 0 where
-  pub heaps : Heaps
-  pub drew : outcome (host_of description) description.loads (guests_of description) ≡ Ok heaps
-  pub guests : guest_plans (host_of description) (items_in description) 0 (guests_of description) heaps.drawn ≡ plan.guests
+  pub draws : Draws
+  pub drew : outcome (host_of description) description.loads (guests_of description) ≡ Ok draws
+  pub guests : guest_plans (host_of description) (items_in description) 0 (guests_of description) draws.heaps.drawn ≡ plan.guests
   pub clear : has_no_fault (joined (host_of description) description.loads (guests_of description)) ≡ true
 
 pub is_planned : (description : Description) (plan : TreePlan) → plan_of description ≡ Ok plan → IsPlanned description plan
 unfolding plan_of
 is_planned description plan is = by (outcome (host_of description) description.loads (guests_of description)) refl is
   where
-    by : (o : Result Heaps Refusal) → outcome (host_of description) description.loads (guests_of description) ≡ o → plan_from description o ≡ Ok plan → IsPlanned description plan
+    by : (o : Result Draws Refusal) → outcome (host_of description) description.loads (guests_of description) ≡ o → plan_from description o ≡ Ok plan → IsPlanned description plan
     by (Err refusal) drew same = absurd (cc)
-    by (Ok heaps) drew same =
-        let given : TreePlan = record { guests = guest_plans (host_of description) (items_in description) 0 (guests_of description) heaps.drawn; free = heaps.left } in
+    by (Ok draws) drew same =
+        let given : TreePlan = record { guests = guest_plans (host_of description) (items_in description) 0 (guests_of description) draws.heaps.drawn; free = draws.heaps.left } in
         let one : given ≡ plan = cc in
         record {
-          heaps = heaps;
+          draws = draws;
           drew = drew;
           guests = ap (λ (p : TreePlan). p.guests) one;
-          clear = no_own (host_of description) [] (joined (host_of description) description.loads (guests_of description)) (outcome_tells (host_of description) description.loads (guests_of description) heaps drew).0;
+          clear = no_own (host_of description) [] (joined (host_of description) description.loads (guests_of description)) (outcome_tells (host_of description) description.loads (guests_of description) draws drew).none;
         }
 
 module _ (description : Description) (clear : has_no_fault (joined (host_of description) description.loads (guests_of description)) ≡ true) where
@@ -187,6 +186,6 @@ few_planned description plan is =
     let planned = is_planned description plan is in
     let few = few_guests description planned.clear in
     let as_many = as_many_nodes description.root description.partials 0 (guest_nodes description.root) in
-    let plans = few_plans (host_of description) (items_in description) 0 (guests_of description) planned.heaps.drawn in
+    let plans = few_plans (host_of description) (items_in description) 0 (guests_of description) planned.draws.heaps.drawn in
     let same = ap (λ (guests : List GuestPlan). length guests) planned.guests in
     omega arith
