@@ -7,7 +7,7 @@ use Rattle.fdt_tree.specs.Document.{Document, place_of, name_of, children_of}
 use Rattle.fdt_tree.proofs.Edits.{at-below}
 use Rattle.fdt_tree.proofs.Names.{first_is, none_left}
 use Rattle.fdt_tree.proofs.Siblings.{Comes, stands_there}
-use Rattle.fdt_nodes.specs.ChildMaps.{child_place}
+use Rattle.indexed_tree.specs.Lookups.{child_place}
 
 module _ (d : Document) (node : ℕ) (name : Bytes) (u : Tree) (e : at d.tree (place_of d node) ≡ Some u) where
   below : (k : ℕ) → at d.tree (place_of d node ++ k ∷ []) ≡ at_in (children_of d node) k []

@@ -1,6 +1,6 @@
 -- Copies of properties and of nodes.
 use Rattle.std.proofs.Common.{◌≡◌, ◌∙◌, ap, sym, subst, refl, ℕ, ◌+◌, ◌<◌, ◌≤◌, length, List, [], ◌∷◌, ◌++◌, Option, Some, None, option_map, drop, Bool, true, false, cond, slice_get, append_assoc, append-nil}
-use Rattle.std.specs.Prelude.{option_and_then, bytes_eq, codes, IfSome, IfOk, Result, Ok, Err}
+use Rattle.std.specs.Prelude.{option_and_then, bytes_eq, codes, IfSome}
 use Rattle.std.specs.Option.{option_map_or}
 use Rattle.std.specs.Int.{w32, to_be_bytes}
 use Rattle.fdt_tree.specs.Tree.{Bytes, Property, Trees, none, tree, Tree, Place, cell, property_of, at, edit, change_properties}
@@ -10,7 +10,7 @@ use Rattle.fdt_nodes.specs.Values.{u32_in}
 use Rattle.tree_parts.specs.Grown.{joined, Grows, with_more, with_last_children}
 use Rattle.tree_parts.proofs.Growing.{Grows-nothing, Grows-more, Grows-inside, joined-twice, with_more-nothing, with_more-twice}
 use Rattle.fdt_overlay.specs.Shift.{moved_properties, moved_in, moved_tree}
-use Rattle.fdt_overlay.specs.PrivateCopies.{placed, left_over, with_first, moved_phandle, copied, copied_in, copied_tree}
+use Rattle.fdt_overlay.specs.PrivateCopies.{placed, left_over, with_first, moved_phandle}
 use Rattle.fdt_overlay.proofs.TurnLemmas.{from-index, from-end}
 use Rattle.fdt_overlay.proofs.Siblings.{siblings_from, joined-none, first-siblings, node-siblings}
 
@@ -48,22 +48,9 @@ with_first-some name bytes value (p ∷ ps) is = by (with_first-some name bytes 
     by later true is = ap (λ qs. (name, bytes) ∷ qs) (sym (with_first-none name ps))
     by later false is = ap (λ qs. p ∷ qs) (later is)
 
--- the properties of a copy, by the phandle that was found for it
-pub given-as : (by : Option ℕ) (ps : List Property) (phandle : Option ℕ) (d e : Document) (copy : ℕ) → phandle ≡ moved_phandle by ps → e ≡ with_more d copy (with_first (codes "phandle") (option_map (to_be_bytes w32) phandle) ps) → e ≡ with_more d copy (copied by ps)
-given-as by ps phandle d e copy is given = given ∙ ap (λ (o : Option ℕ). with_more d copy (with_first (codes "phandle") (option_map (to_be_bytes w32) o) ps)) is
-
--- a phandle that is moved has still four bytes
-pub moved-fits : (by : Option ℕ) (more phandle : ℕ) (ps : List Property) → by ≡ Some more → Some phandle ≡ u32_in ps (codes "phandle") → IfSome (moved_phandle by ps) (λ moved. moved ≤ 4294967295) → phandle + more ≤ 4294967295
-moved-fits by more phandle ps is at fits =
-    subst (λ (o : Option ℕ). IfSome (option_map (λ number. number + more) o) (λ moved. moved ≤ 4294967295)) (sym at) (subst (λ (b : Option ℕ). IfSome (moved_phandle b ps) (λ moved. moved ≤ 4294967295)) is fits)
-
--- nothing is moved
-pub copied-none : (ps : List Property) → copied None ps ≡ ps
-copied-none ps = with_first-none (codes "phandle") ps
-
 -- the phandle is moved, where there is one
-pub copied-some : (by : ℕ) (ps : List Property) → copied (Some by) ps ≡ moved_properties by ps
-copied-some by ps = sym (from (property_of ps (codes "phandle")) refl)
+moved-first : (by : ℕ) (ps : List Property) → with_first (codes "phandle") (option_map (to_be_bytes w32) (moved_phandle by ps)) ps ≡ moved_properties by ps
+moved-first by ps = sym (from (property_of ps (codes "phandle")) refl)
   where
     moved : List Property → Option ℕ → List Property
     moved qs o = option_map_or (λ phandle. set_property (codes "phandle") (to_be_bytes w32 (phandle + by)) qs) o qs
@@ -79,39 +66,38 @@ copied-some by ps = sym (from (property_of ps (codes "phandle")) refl)
     from None is = ap (λ (v : Option Bytes). moved ps (option_and_then cell v)) is ∙ (sym (with_first-none (codes "phandle") ps) ∙ sym (ap (λ (v : Option Bytes). given ps (option_and_then cell v)) is))
     from (Some value) is = same value is (u32_in ps (codes "phandle"))
 
-pub copied_in-none : (ts : Trees) → copied_in None ts ≡ ts
-copied_in-none none = refl
-copied_in-none (tree n ps cs rest) =
-    ap (λ qs. tree n qs (copied_in None cs) (copied_in None rest)) (copied-none ps) ∙ (ap (λ z. tree n ps z (copied_in None rest)) (copied_in-none cs) ∙ ap (tree n ps cs) (copied_in-none rest))
+-- the properties of a copy, by the phandle that was found for it
+pub given-as : (by : ℕ) (ps : List Property) (phandle : Option ℕ) (d e : Document) (copy : ℕ) → phandle ≡ moved_phandle by ps → e ≡ with_more d copy (with_first (codes "phandle") (option_map (to_be_bytes w32) phandle) ps) → e ≡ with_more d copy (moved_properties by ps)
+given-as by ps phandle d e copy is given =
+    given ∙ ap (with_more d copy) (ap (λ (o : Option ℕ). with_first (codes "phandle") (option_map (to_be_bytes w32) o) ps) is ∙ moved-first by ps)
 
-pub copied_in-some : (by : ℕ) (ts : Trees) → copied_in (Some by) ts ≡ moved_in by ts
-copied_in-some by none = refl
-copied_in-some by (tree n ps cs rest) =
-    ap (λ qs. tree n qs (copied_in (Some by) cs) (copied_in (Some by) rest)) (copied-some by ps) ∙ (ap (λ z. tree n (moved_properties by ps) z (copied_in (Some by) rest)) (copied_in-some by cs) ∙ ap (tree n (moved_properties by ps) (moved_in by cs)) (copied_in-some by rest))
+-- a phandle that is moved has still four bytes
+pub moved-fits : (by phandle : ℕ) (ps : List Property) → Some phandle ≡ u32_in ps (codes "phandle") → IfSome (moved_phandle by ps) (λ moved. moved ≤ 4294967295) → phandle + by ≤ 4294967295
+moved-fits by phandle ps at fits = subst (λ (o : Option ℕ). IfSome (option_map (λ number. number + by) o) (λ moved. moved ≤ 4294967295)) (sym at) fits
 
-copied-joined : (by : Option ℕ) (ts us : Trees) → copied_in by (joined ts us) ≡ joined (copied_in by ts) (copied_in by us)
-copied-joined by none us = refl
-copied-joined by (tree n ps cs rest) us = ap (tree n (copied by ps) (copied_in by cs)) (copied-joined by rest us)
+moved-joined : (by : ℕ) (ts us : Trees) → moved_in by (joined ts us) ≡ joined (moved_in by ts) (moved_in by us)
+moved-joined by none us = refl
+moved-joined by (tree n ps cs rest) us = ap (tree n (moved_properties by ps) (moved_in by cs)) (moved-joined by rest us)
 
 -- what a walk over the children of a node has done: the children before the next one are copied
-pub record IsCopied (by : Option ℕ) (source : Document) (node : ℕ) (next : Option ℕ) (old new : Document) (parent : ℕ) : Type 0 where
+pub record IsCopied (by : ℕ) (source : Document) (node : ℕ) (next : Option ℕ) (old new : Document) (parent : ℕ) : Type 0 where
   pub before : Trees
   pub parts : children_of source node ≡ joined before (siblings_from source next)
-  pub copies : Grows old new parent (copied_in by before)
+  pub copies : Grows old new parent (moved_in by before)
 
-pub IsCopied-start : (by : Option ℕ) (source : Document) (node : ℕ) (next : Option ℕ) (doc : Document) (parent : ℕ) → IsNumbering source → node < length source.places → option_map (λ n. place_of source n) next ≡ if_there source (place_of source node ++ 0 ∷ []) → IsCopied by source node next doc doc parent
+pub IsCopied-start : (by : ℕ) (source : Document) (node : ℕ) (next : Option ℕ) (doc : Document) (parent : ℕ) → IsNumbering source → node < length source.places → option_map (λ n. place_of source n) next ≡ if_there source (place_of source node ++ 0 ∷ []) → IsCopied by source node next doc doc parent
 IsCopied-start by source node next doc parent numbering live is = record {
   before = none;
   parts = sym (first-siblings source node next (numbering.stand node live) is);
   copies = Grows-nothing doc doc parent refl;
 }
 
-pub IsCopied-end : (by : Option ℕ) (source : Document) (node : ℕ) (next : Option ℕ) (old new : Document) (parent : ℕ) → next ≡ None → IsCopied by source node next old new parent → Grows old new parent (copied_in by (children_of source node))
+pub IsCopied-end : (by : ℕ) (source : Document) (node : ℕ) (next : Option ℕ) (old new : Document) (parent : ℕ) → next ≡ None → IsCopied by source node next old new parent → Grows old new parent (moved_in by (children_of source node))
 IsCopied-end by source node next old new parent end so_far =
     let all : so_far.before ≡ children_of source node = sym (so_far.parts ∙ (ap (λ z. joined so_far.before (siblings_from source z)) end ∙ joined-none so_far.before)) in
-    subst (λ (ts : Trees). Grows old new parent (copied_in by ts)) all so_far.copies
+    subst (λ (ts : Trees). Grows old new parent (moved_in by ts)) all so_far.copies
 
-pub IsCopied-next : (by : Option ℕ) (source : Document) (node child : ℕ) (here next : Option ℕ) (old now added done : Document) (parent copy : ℕ) → IsNumbering source → IsNumbering now → child < length source.places → parent < length old.places → parent < length now.places → here ≡ Some child → option_map (λ n. place_of source n) next ≡ option_and_then (λ p. if_there source p) (next_place (place_of source child)) → added ≡ with_node now (place_of now parent) (name_of source child) (copied by (properties_of source child)) → copy ≡ length now.places → Grows added done copy (copied_in by (children_of source child)) → IsCopied by source node here old now parent → IsCopied by source node next old done parent
+pub IsCopied-next : (by : ℕ) (source : Document) (node child : ℕ) (here next : Option ℕ) (old now added done : Document) (parent copy : ℕ) → IsNumbering source → IsNumbering now → child < length source.places → parent < length old.places → parent < length now.places → here ≡ Some child → option_map (λ n. place_of source n) next ≡ option_and_then (λ p. if_there source p) (next_place (place_of source child)) → added ≡ with_node now (place_of now parent) (name_of source child) (moved_properties by (properties_of source child)) → copy ≡ length now.places → Grows added done copy (moved_in by (children_of source child)) → IsCopied by source node here old now parent → IsCopied by source node next old done parent
 IsCopied-next by source node child here next old now added done parent copy numbering fine live first_live now_live is following made newest below so_far =
     let n = name_of source child in
     let ps = properties_of source child in
@@ -120,7 +106,7 @@ IsCopied-next by source node child here next old now added done parent copy numb
     record {
       before = joined so_far.before one;
       parts = so_far.parts ∙ (ap (λ z. joined so_far.before (siblings_from source z)) is ∙ (ap (joined so_far.before) (node-siblings source child next (numbering.stand child live) following) ∙ sym (joined-twice so_far.before one (siblings_from source next))));
-      copies = subst (λ (ts : Trees). Grows old done parent ts) (sym (copied-joined by so_far.before one)) (Grows-more old now done parent (copied_in by so_far.before) (copied_in by one) first_live so_far.copies (Grows-inside now added done parent copy n (copied by ps) (copied_in by cs) fine now_live made newest below));
+      copies = subst (λ (ts : Trees). Grows old done parent ts) (sym (moved-joined by so_far.before one)) (Grows-more old now done parent (moved_in by so_far.before) (moved_in by one) first_live so_far.copies (Grows-inside now added done parent copy n (moved_properties by ps) (moved_in by cs) fine now_live made newest below));
     }
 
 -- a whole tree: the root with its properties, and then its children
@@ -130,25 +116,11 @@ whole start given done root ps ts fresh top has grown =
     grown.tree ∙ (ap (edit (with_last_children ts) given.tree) place ∙ (ap (λ (z : Document). with_last_children ts z.tree) has ∙ (ap (λ p. with_last_children ts (edit (change_properties (λ qs. qs ++ ps)) start.tree p)) top ∙ ap (λ (z : Document). with_last_children ts (change_properties (λ qs. qs ++ ps) z.tree)) fresh)))
 
 -- a copy of a whole tree is made
-pub copy-made : (by : Option ℕ) (s start given done : Document) (from root : ℕ) (phandle : Option ℕ) → place_of s from ≡ [] → s.tree.name ≡ [] → phandle ≡ moved_phandle by (properties_of s from) → start ≡ empty → place_of start root ≡ [] → given ≡ with_more start root (with_first (codes "phandle") (option_map (to_be_bytes w32) phandle) (properties_of s from)) → Grows given done root (copied_in by (children_of s from)) → done.tree ≡ copied_tree by s.tree
+pub copy-made : (by : ℕ) (s start given done : Document) (from root : ℕ) (phandle : Option ℕ) → place_of s from ≡ [] → s.tree.name ≡ [] → phandle ≡ moved_phandle by (properties_of s from) → start ≡ empty → place_of start root ≡ [] → given ≡ with_more start root (with_first (codes "phandle") (option_map (to_be_bytes w32) phandle) (properties_of s from)) → Grows given done root (moved_in by (children_of s from)) → done.tree ≡ moved_tree by s.tree
 copy-made by s start given done from root phandle stands unnamed is fresh top has grown =
-    whole start given done root (copied by (properties_of s from)) (copied_in by (children_of s from)) fresh top (given-as by (properties_of s from) phandle start given root is has) grown
-    ∙ (ap (λ (p : Place). record { name = []; properties = copied by (option_map_or (λ (n : Tree). n.properties) (at s.tree p) []); children = copied_in by (option_map_or (λ (n : Tree). n.children) (at s.tree p) none) }) stands
-    ∙ ap (λ (n : Bytes). record { name = n; properties = copied by s.tree.properties; children = copied_in by s.tree.children }) (sym unnamed))
-
--- a copy as it is, and a copy that is moved
-pub copied_tree-none : (t : Tree) → copied_tree None t ≡ t
-copied_tree-none t =
-    ap (λ qs. record { name = t.name; properties = qs; children = copied_in None t.children }) (copied-none t.properties) ∙ ap (λ cs. record { name = t.name; properties = t.properties; children = cs }) (copied_in-none t.children)
-
-pub copied_tree-some : (by : ℕ) (t : Tree) → copied_tree (Some by) t ≡ moved_tree by t
-copied_tree-some by t =
-    ap (λ qs. record { name = t.name; properties = qs; children = copied_in (Some by) t.children }) (copied-some by t.properties) ∙ ap (λ cs. record { name = t.name; properties = moved_properties by t.properties; children = cs }) (copied_in-some by t.children)
-
--- a tree that was made, in other words
-pub made-as : {E : Type 0} (result : Result Document E) (t u : Tree) → IfOk result (λ made. made.tree ≡ t) → t ≡ u → IfOk result (λ made. made.tree ≡ u)
-made-as (Ok made) t u is same = is ∙ same
-made-as (Err fault) t u is same = tt
+    whole start given done root (moved_properties by (properties_of s from)) (moved_in by (children_of s from)) fresh top (given-as by (properties_of s from) phandle start given root is has) grown
+    ∙ (ap (λ (p : Place). record { name = []; properties = moved_properties by (option_map_or (λ (n : Tree). n.properties) (at s.tree p) []); children = moved_in by (option_map_or (λ (n : Tree). n.children) (at s.tree p) none) }) stands
+    ∙ ap (λ (n : Bytes). record { name = n; properties = moved_properties by s.tree.properties; children = moved_in by s.tree.children }) (sym unnamed))
 
 -- a property is added to a copy, by the phandle that is still to be given
 pub placed-none : (phandle : Option ℕ) (p : Property) (d e : Document) (copy : ℕ) → phandle ≡ None → e ≡ with_more d copy (p ∷ []) → e ≡ with_more d copy (placed (codes "phandle") (option_map (to_be_bytes w32) phandle) p ∷ [])

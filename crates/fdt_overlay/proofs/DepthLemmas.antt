@@ -1,44 +1,10 @@
--- How deep nodes stand, and how deep what is below them is.
-use Rattle.std.proofs.Common.{◌≡◌, ◌∙◌, ap, sym, refl, ℕ, suc, ◌+◌, ◌-◌, ◌<◌, max, [], ◌∷◌, ◌++◌, true, false, Option, Some, None, option_map, length, arith}
+-- How deep what is below nodes is.
+use Rattle.std.proofs.Common.{◌≡◌, ◌∙◌, ap, sym, ℕ, suc, ◌-◌, ◌<◌, max, [], ◌∷◌, ◌++◌, true, false, Option, Some, None, option_map, length, arith}
 use Rattle.std.specs.Prelude.{nat_le, option_and_then}
 use Rattle.std.proofs.lemmas.Bool.Decides.{nat_tests}
-use Rattle.fdt_tree.specs.Tree.{Place, depth}
-use Rattle.fdt_tree.specs.Document.{Document, place_of, children_of, parent_place, next_place, if_there, IsNumbering}
+use Rattle.fdt_tree.specs.Document.{Document, place_of, children_of, next_place, if_there, IsNumbering}
 use Rattle.fdt_tree.specs.Whole.{height}
 use Rattle.fdt_overlay.proofs.Siblings.{siblings_from, first-siblings, node-siblings}
-
--- the place above is shorter by one
-above-shorter : (p q : Place) → parent_place p ≡ Some q → length p ≡ suc (length q)
-above-shorter [] q is = absurd (cc)
-above-shorter (k ∷ []) q is = let same : [] ≡ q = cc in ap (λ (r : Place). suc (length r)) same
-above-shorter (k ∷ j ∷ p) q is = by (λ r at. above-shorter (j ∷ p) r at) (parent_place (j ∷ p)) refl is
-  where
-    by : ((r : Place) → parent_place (j ∷ p) ≡ Some r → length (j ∷ p) ≡ suc (length r)) → (o : Option Place) → parent_place (j ∷ p) ≡ o → option_map (λ (above : Place). k ∷ above) o ≡ Some q → suc (length (j ∷ p)) ≡ suc (length q)
-    by go None at is = absurd (cc)
-    by go (Some r) at is = let same : k ∷ r ≡ q = cc in ap suc (go r at ∙ ap (λ (z : Place). length z) same)
-
--- only the root has none above it
-above-none : (p : Place) → parent_place p ≡ None → p ≡ []
-above-none [] is = refl
-above-none (k ∷ []) is = absurd (cc)
-above-none (k ∷ j ∷ p) is = by (above-none (j ∷ p)) (parent_place (j ∷ p)) refl is
-  where
-    never : j ∷ p ≡ [] → ⊥
-    never e = cc
-
-    by : (parent_place (j ∷ p) ≡ None → j ∷ p ≡ []) → (o : Option Place) → parent_place (j ∷ p) ≡ o → option_map (λ (above : Place). k ∷ above) o ≡ None → k ∷ j ∷ p ≡ []
-    by go None at is = absurd (never (go at))
-    by go (Some r) at is = absurd (cc)
-
--- one node more on the way to the root
-pub depth-next : (d : Document) (node here above count : ℕ) → Some (place_of d above) ≡ parent_place (place_of d here) → count + length (place_of d here) ≡ depth (place_of d node) → (count + 1) + length (place_of d above) ≡ depth (place_of d node)
-depth-next d node here above count is so_far =
-    let shorter = above-shorter (place_of d here) (place_of d above) (sym is) in omega (arith, shorter, so_far)
-
--- the root
-pub depth-end : (d : Document) (node here count : ℕ) → None ≡ parent_place (place_of d here) → count + length (place_of d here) ≡ depth (place_of d node) → count ≡ depth (place_of d node)
-depth-end d node here count is so_far =
-    let end : length (place_of d here) ≡ 0 = ap (λ (p : Place). length p) (above-none (place_of d here) (sym is)) in omega (arith, end, so_far)
 
 -- whether what is below a node is within some room is whether what the children from here on are is
 abbrev pub IsMeasured : Document → ℕ → ℕ → Option ℕ → Type 0

@@ -13,7 +13,7 @@ use Rattle.fdt_overlay.specs.declared.fault.OverlayFault.TheVariants.{NoTarget, 
 use Rattle.fdt_overlay.specs.Turns.{each, and_then}
 use Rattle.fdt_overlay.specs.Values.{first_child}
 use Rattle.fdt_overlay.specs.Merge.{Fragment, fragment_first, fragments, target_of, merged_at, merged_node, with_fragment, merged}
-use Rattle.fdt_nodes.specs.ChildMaps.{child_place}
+use Rattle.indexed_tree.specs.Lookups.{child_place}
 use Rattle.fdt_overlay.specs.PrivateGrown.{one_tree, tree_of}
 use Rattle.fdt_overlay.proofs.Siblings.{siblings_from, first-siblings, node-siblings}
 

@@ -76,7 +76,7 @@ phandle-highest t (k ∷ q) u phandle there is =
     omega (arith, one, whole)
 
 -- all phandles can be moved where the highest can
-pub can-move : (d : Document) (by : ℕ) → IsNumbering d → highest_phandle d.tree + by ≤ 4294967294 → CanMove d (Some by)
+pub can-move : (d : Document) (by : ℕ) → IsNumbering d → highest_phandle d.tree + by ≤ 4294967294 → CanMove d by
 can-move d by numbering fits node live =
     let u = stands d node numbering live in
     each (u32_in (properties_of d node) (codes "phandle")) refl (λ phandle is. phandle-highest d.tree _ u.0 phandle u.1 (sym (ap (λ (o : Option Tree). u32_in (option_map_or (λ (v : Tree). v.properties) o []) (codes "phandle")) u.1) ∙ is))
@@ -84,7 +84,3 @@ can-move d by numbering fits node live =
     each : (o : Option ℕ) → u32_in (properties_of d node) (codes "phandle") ≡ o → ((phandle : ℕ) → u32_in (properties_of d node) (codes "phandle") ≡ Some phandle → phandle ≤ highest_phandle d.tree) → IfSome (option_map (λ phandle. phandle + by) o) (λ moved. moved ≤ 4294967295)
     each None is within = tt
     each (Some phandle) is within = let low = within phandle is in omega (arith, low, fits)
-
--- nothing is moved
-pub can-stay : (d : Document) → CanMove d None
-can-stay d node live = tt

@@ -4,7 +4,6 @@ pub mod ChildWalks
 pub mod CopyLemmas
 pub mod DepthLemmas
 pub mod Exact
-pub mod FoundLemmas
 pub mod FragmentLemmas
 pub mod HighestLemmas
 pub mod LabelLemmas
@@ -12,11 +11,12 @@ pub mod LocalLemmas
 pub mod MergeLemmas
 pub mod OneOutcome
 pub mod OverlaySteps
+pub mod PutLemmas
 pub mod Rows
+pub mod SetLemmas
 pub mod ShiftLemmas
 pub mod Siblings
 pub mod SpotLemmas
-pub mod TargetLemmas
 pub mod TurnLemmas
 pub mod Walks
 pub mod WordLemmas

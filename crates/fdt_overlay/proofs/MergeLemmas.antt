@@ -11,7 +11,7 @@ use Rattle.fdt_tree.proofs.Links.{length-last, place-new, children_at-there}
 use Rattle.tree_parts.specs.Grown.{joined}
 use Rattle.tree_parts.proofs.Growing.{edit-twice, edit-same, edit-nothing, stands, joined-twice}
 use Rattle.fdt_overlay.specs.Merge.{change_named, merged_in, set_all}
-use Rattle.fdt_nodes.specs.ChildMaps.{child_place}
+use Rattle.indexed_tree.specs.Lookups.{child_place}
 use Rattle.fdt_overlay.specs.PrivateGrown.{Changes, merging, merging_all, IsOpened}
 use Rattle.fdt_overlay.proofs.Siblings.{siblings_from, joined-none, first-siblings, node-siblings}
 

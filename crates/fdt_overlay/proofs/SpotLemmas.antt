@@ -5,7 +5,8 @@ use Rattle.std.specs.List.{slice_split}
 use Rattle.std.proofs.lemmas.List.Splits.{length-slice_split}
 use Rattle.fdt_tree.specs.Tree.{Bytes, Tree, cell}
 use Rattle.fdt_overlay.specs.Turns.{all}
-use Rattle.fdt_overlay.specs.Words.{word_at, with_word, replaced}
+use Rattle.indexed_tree.specs.Words.{with_word}
+use Rattle.fdt_overlay.specs.Words.{word_at, replaced}
 use Rattle.fdt_overlay.specs.Resolve.{Spot, decimal_of, spot_of_parts, spot_of, ended, strings_of, with_spot, with_string, with_strings}
 use Rattle.fdt_overlay.proofs.LocalLemmas.{drop-past}
 

@@ -2,7 +2,7 @@
 use Rattle.std.specs.Prelude.{◌≡◌, ◌<◌, ◌≤◌, ◌⊎◌, ℕ, List, ◌++◌, length, Some, None}
 use Rattle.fdt_tree.specs.Tree.{Bytes, Property, Trees, none, tree, Tree, Place, edit}
 use Rattle.fdt_tree.specs.Document.{Document, place_of, name_of, properties_of, children_of, with_child}
-use Rattle.fdt_nodes.specs.ChildMaps.{child_place}
+use Rattle.indexed_tree.specs.Lookups.{child_place}
 use Rattle.fdt_overlay.specs.Merge.{set_all, merged_in, Fragment}
 
 -- a node is changed, with all below it, and the nodes that were there keep their numbers and their places

@@ -7,6 +7,7 @@ use crate::fragments::merge;
 use crate::resolve::resolve;
 use crate::shift::shift;
 use fdt_tree::Tree;
+use indexed_tree::IndexedTree;
 use std::alloc::Global;
 
 /// The base with the overlay applied, or the first fault of the overlay, in this order: its phandles are moved above those
@@ -15,13 +16,8 @@ pub fn apply(alloc: Global, base: &Tree, overlay: &Tree) -> Result<Tree, Overlay
     ensures ok { IfOk result (λ made. applied base.now.tree overlay.now.tree ≡ Ok made.tree) }
     ensures refused { IfErr result (λ fault. (fault ≡ OverlayFault.Memory) ⊎ (applied base.now.tree overlay.now.tree ≡ Err fault)) }
 {
-    let above = match shift(alloc, base, overlay) {
-        Ok(above) => above,
-        Err(fault) => return Err(fault),
-    };
-    let known = match resolve(alloc, base, &above) {
-        Ok(known) => known,
-        Err(fault) => return Err(fault),
-    };
-    merge(alloc, base, &known)
+    let above = shift(alloc, base, overlay)?;
+    let indexed = IndexedTree::copied(alloc, base)?;
+    let known = resolve(alloc, &indexed, &above)?;
+    merge(alloc, indexed, &known)
 }

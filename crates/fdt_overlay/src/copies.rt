@@ -1,4 +1,4 @@
-// Copies of trees: as they are, or with their phandles moved up.
+// Copies of trees with their phandles moved up.
 ghost use Rattle.std.specs.Prelude.{◌≡◌, ◌≢◌, ◌<◌, ◌≤◌, ◌+◌, ◌∷◌, [], IsTrue, length, OnOk, IfOk, codes, option_map};
 ghost use Rattle.std.specs.Int.{w32, to_be_bytes};
 ghost use Rattle.fdt_tree.specs.Tree.{is_property_name};
@@ -6,26 +6,24 @@ ghost use Rattle.fdt_tree.specs.Document.{IsNamed, place_of, name_of, properties
 ghost use Rattle.fdt_tree.specs.Phandles.{highest_phandle};
 ghost use Rattle.tree_parts.specs.Grown.{Grows, with_more};
 ghost use Rattle.fdt_overlay.specs.Words.{last_phandle};
-ghost use Rattle.fdt_overlay.specs.Shift.{moved_tree};
-ghost use Rattle.fdt_overlay.specs.PrivateCopies.{placed, left_over, with_first, moved_phandle, copied, copied_in, copied_tree, CanMove};
+ghost use Rattle.fdt_overlay.specs.Shift.{moved_properties, moved_in, moved_tree};
+ghost use Rattle.fdt_overlay.specs.PrivateCopies.{placed, left_over, with_first, moved_phandle, CanMove};
 
 use fdt_nodes::u32_at;
 use fdt_tree::{NodeId, Tree};
+use indexed_tree::IndexedTree;
 use std::alloc::{AllocError, Global};
 use tree_parts::add_empty;
 
-/// The phandle of a copy, where it is another than that of the node.
-fn moved_phandle(source: &Tree, node: NodeId, by: Option<u32>) -> Option<u32>
+/// The phandle of a copy, where the node has one.
+fn moved_phandle(source: &Tree, node: NodeId, by: u32) -> Option<u32>
     requires live { node < length source.now.places }
     requires can_move { CanMove source.now by }
     ensures { result ≡ moved_phandle by (properties_of source.now node) }
 {
-    match by {
+    match u32_at(source, node, b"phandle") {
         None => None,
-        Some(more) => match u32_at(source, node, b"phandle") {
-            None => None,
-            Some(phandle) => Some(phandle + more),
-        },
+        Some(phandle) => Some(phandle + by),
     }
 }
 
@@ -87,14 +85,14 @@ fn copy_node(
     parent: NodeId,
     source: &Tree,
     node: NodeId,
-    by: Option<u32>,
+    by: u32,
 ) -> Result<NodeId, AllocError>
     requires parent_live { parent < length tree.old.places }
     requires live { node < length source.now.places }
     requires below { place_of source.now node ≢ [] }
     requires named { IsNamed source.now }
     requires can_move { CanMove source.now by }
-    ensures ok { OnOk result (tree.new ≡ with_node tree.old (place_of tree.old parent) (name_of source.now node) (copied by (properties_of source.now node))) }
+    ensures ok { OnOk result (tree.new ≡ with_node tree.old (place_of tree.old parent) (name_of source.now node) (moved_properties by (properties_of source.now node))) }
     ensures newest { IfOk result (λ copy. copy ≡ length tree.old.places) }
 {
     tree.numbering();
@@ -109,13 +107,13 @@ fn copy_children(
     parent: NodeId,
     source: &Tree,
     node: NodeId,
-    by: Option<u32>,
+    by: u32,
 ) -> Result<(), AllocError>
     requires parent_live { parent < length tree.old.places }
     requires live { node < length source.now.places }
     requires named { IsNamed source.now }
     requires can_move { CanMove source.now by }
-    ensures { OnOk result (Grows tree.old tree.new parent (copied_in by (children_of source.now node))) }
+    ensures { OnOk result (Grows tree.old tree.new parent (moved_in by (children_of source.now node))) }
 {
     source.numbering();
     let mut next = source.first_child(node);
@@ -128,10 +126,10 @@ fn copy_children(
     Ok(())
 }
 
-/// Copies a whole tree.
-fn copy_whole(alloc: Global, source: &Tree, by: Option<u32>) -> Result<Tree, AllocError>
+/// A copy of a whole tree.
+fn copy_whole(alloc: Global, source: &Tree, by: u32) -> Result<Tree, AllocError>
     requires { CanMove source.now by }
-    ensures { IfOk result (λ made. made.tree ≡ copied_tree by source.now.tree) }
+    ensures { IfOk result (λ made. made.tree ≡ moved_tree by source.now.tree) }
 {
     source.names();
     source.kept();
@@ -149,18 +147,12 @@ fn copy_whole(alloc: Global, source: &Tree, by: Option<u32>) -> Result<Tree, All
     Ok(tree)
 }
 
-/// A copy of a tree.
-pub(crate) fn copy(alloc: Global, source: &Tree) -> Result<Tree, AllocError>
-    ensures { IfOk result (λ made. made.tree ≡ source.now.tree) }
-{
-    copy_whole(alloc, source, None)
-}
-
 /// A copy of a tree with all its phandles moved up by a number, after which the highest is still a phandle.
-pub(crate) fn copy_moved(alloc: Global, by: u32, source: &Tree) -> Result<Tree, AllocError>
+pub(crate) fn copy_moved(alloc: Global, by: u32, source: &Tree) -> Result<IndexedTree, AllocError>
     requires { highest_phandle source.now.tree + by ≤ last_phandle }
     ensures { IfOk result (λ made. made.tree ≡ moved_tree by source.now.tree) }
 {
     source.numbering();
-    copy_whole(alloc, source, Some(by))
+    let made = copy_whole(alloc, source, by)?;
+    IndexedTree::copied(alloc, &made)
 }

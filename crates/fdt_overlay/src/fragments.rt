@@ -5,32 +5,23 @@ ghost use Rattle.fdt_overlay.specs.Turns.{each};
 ghost use Rattle.fdt_overlay.specs.Merge.{with_fragment, fragments, merged};
 ghost use Rattle.fdt_overlay.specs.PrivateGrown.{one_tree, fragment_at};
 
-use crate::copies::copy;
-use crate::depths::{depth, fits};
+use crate::children::child_named;
+use crate::depths::fits;
 use crate::fault::OverlayFault;
-use crate::merge::{child_named, merge_node};
+use crate::held::held;
+use crate::merge::merge_node;
 use crate::targets::find_target;
-use dl_base::Bytes;
 use fdt_tree::{NodeId, Tree};
-use std::alloc::{AllocError, Global};
+use indexed_tree::IndexedTree;
+use std::alloc::Global;
 
 /// The deepest that a node may stand.
 const DEPTH_LIMIT: usize = 32;
 
-/// The name of a node, on its own.
-fn own_name(alloc: Global, tree: &Tree, node: NodeId) -> Result<Bytes, AllocError>
-    requires { node < length tree.now.places }
-    ensures { IfOk result (λ name. name ≡ name_of tree.now node) }
-{
-    let mut name = Bytes::new(alloc);
-    name.append(tree.name(node))?;
-    Ok(name)
-}
-
 /// Merges what a fragment holds into its target.
 fn merge_fragment(
     alloc: Global,
-    tree: &mut Tree,
+    tree: &mut IndexedTree,
     overlay: &Tree,
     fragment: NodeId,
     content: NodeId,
@@ -41,10 +32,10 @@ fn merge_fragment(
     ensures refused { IfErr result (λ fault. (fault ≡ OverlayFault.Memory) ⊎ (with_fragment tree.old.tree (fragment_at overlay.now fragment content) ≡ Err fault)) }
 {
     let Some(target) = find_target(tree, overlay, fragment) else {
-        return Err(OverlayFault::NoTarget(own_name(alloc, overlay, fragment)?));
+        return Err(OverlayFault::NoTarget(held(alloc, overlay.name(fragment))?));
     };
-    if !fits(overlay, content, DEPTH_LIMIT - depth(tree, target)) {
-        return Err(OverlayFault::Deep(own_name(alloc, overlay, fragment)?));
+    if !fits(overlay, content, DEPTH_LIMIT - tree.depth(target)) {
+        return Err(OverlayFault::Deep(held(alloc, overlay.name(fragment))?));
     }
     merge_node(tree, target, overlay, content)?;
     Ok(())
@@ -53,7 +44,7 @@ fn merge_fragment(
 /// Merges a child of an overlay's root, where it is a fragment.
 fn merge_child(
     alloc: Global,
-    tree: &mut Tree,
+    tree: &mut IndexedTree,
     overlay: &Tree,
     child: NodeId,
 ) -> Result<(), OverlayFault>
@@ -69,19 +60,16 @@ fn merge_child(
 }
 
 /// A base with all fragments of an overlay merged in, in their order, or the first fragment's fault.
-pub(crate) fn merge(alloc: Global, base: &Tree, overlay: &Tree) -> Result<Tree, OverlayFault>
-    ensures ok { IfOk result (λ made. merged base.now.tree overlay.now.tree ≡ Ok made.tree) }
-    ensures refused { IfErr result (λ fault. (fault ≡ OverlayFault.Memory) ⊎ (merged base.now.tree overlay.now.tree ≡ Err fault)) }
+pub(crate) fn merge(alloc: Global, base: IndexedTree, overlay: &Tree) -> Result<Tree, OverlayFault>
+    ensures ok { IfOk result (λ made. merged base.tree overlay.now.tree ≡ Ok made.tree) }
+    ensures refused { IfErr result (λ fault. (fault ≡ OverlayFault.Memory) ⊎ (merged base.tree overlay.now.tree ≡ Err fault)) }
 {
     overlay.numbering();
-    let mut made = copy(alloc, base)?;
+    let mut made = base;
     let mut next = overlay.first_child(overlay.root());
     while let Some(child) = next {
         next = overlay.next_sibling(child);
-        match merge_child(alloc, &mut made, overlay, child) {
-            Ok(()) => {}
-            Err(fault) => return Err(fault),
-        }
+        merge_child(alloc, &mut made, overlay, child)?;
     }
-    Ok(made)
+    Ok(made.into_tree()?)
 }

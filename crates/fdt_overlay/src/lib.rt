@@ -2,6 +2,7 @@
 #![tactic(auto)]
 
 mod applied;
+mod children;
 mod copies;
 mod depths;
 mod digits;
@@ -10,6 +11,7 @@ mod fragments;
 mod held;
 pub mod laws;
 mod lines;
+mod local_words;
 mod merge;
 mod no_report;
 mod prepare;
@@ -18,6 +20,7 @@ mod shift;
 mod spots;
 mod targets;
 mod top;
+mod values;
 mod word_values;
 mod words;
 

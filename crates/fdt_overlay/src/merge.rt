@@ -1,48 +1,34 @@
 // The nodes of an overlay are merged into those of a tree.
-ghost use Rattle.std.specs.Prelude.{◌≡◌, ◌<◌, OnOk, IfOk, IfSome, IsTrue, length, option_map};
+ghost use Rattle.std.specs.Prelude.{◌≡◌, ◌<◌, OnOk, IfOk, IsTrue, length};
 ghost use Rattle.fdt_tree.specs.Tree.{is_node_name};
 ghost use Rattle.fdt_tree.specs.Document.{place_of, properties_of, children_of, with_properties};
-ghost use Rattle.fdt_nodes.specs.ChildMaps.{child_place};
 ghost use Rattle.fdt_overlay.specs.Merge.{set_all};
 ghost use Rattle.fdt_overlay.specs.PrivateGrown.{IsOpened, Changes, merging, merging_all};
 
 use fdt_tree::{NodeId, Tree};
+use indexed_tree::{IndexedNode, IndexedTree};
 use std::alloc::AllocError;
-use tree_parts::add_empty;
-
-/// The first child of a node that has this name.
-pub(crate) fn child_named(tree: &Tree, node: NodeId, name: &[u8]) -> Option<NodeId>
-    requires { node < length tree.now.places }
-    ensures live { IfSome result (λ child. child < length tree.now.places) }
-    ensures place { option_map (λ child. place_of tree.now child) result ≡ child_place tree.now node name.now }
-{
-    tree.numbering();
-    let mut next = tree.first_child(node);
-    while let Some(child) = next {
-        if tree.name(child) == name {
-            return Some(child);
-        }
-        next = tree.next_sibling(child);
-    }
-    None
-}
 
 /// The first child of a node that has this name, which is added last where there is none.
-fn open_child(tree: &mut Tree, node: NodeId, name: &[u8]) -> Result<NodeId, AllocError>
+fn open_child(
+    tree: &mut IndexedTree,
+    node: IndexedNode,
+    name: &[u8],
+) -> Result<IndexedNode, AllocError>
     requires live { node < length tree.old.places }
     requires node_name { IsTrue (is_node_name name.now) }
     ensures { IfOk result (IsOpened tree.old tree.new node name.now) }
 {
-    match child_named(tree, node, name) {
+    match tree.child_named(node, name) {
         Some(child) => Ok(child),
-        None => add_empty(tree, node, name),
+        None => tree.add_node(node, name),
     }
 }
 
 /// Sets the properties of a node of an overlay at a node, one after the other.
 fn set_properties(
-    tree: &mut Tree,
-    target: NodeId,
+    tree: &mut IndexedTree,
+    target: IndexedNode,
     overlay: &Tree,
     node: NodeId,
 ) -> Result<(), AllocError>
@@ -60,8 +46,8 @@ fn set_properties(
 
 /// Merges what is below a node of an overlay into a node, each child into the first of its name.
 fn merge_children(
-    tree: &mut Tree,
-    target: NodeId,
+    tree: &mut IndexedTree,
+    target: IndexedNode,
     overlay: &Tree,
     node: NodeId,
 ) -> Result<(), AllocError>
@@ -84,8 +70,8 @@ fn merge_children(
 
 /// Merges a node of an overlay into a node, with all below it.
 pub(crate) fn merge_node(
-    tree: &mut Tree,
-    target: NodeId,
+    tree: &mut IndexedTree,
+    target: IndexedNode,
     overlay: &Tree,
     node: NodeId,
 ) -> Result<(), AllocError>

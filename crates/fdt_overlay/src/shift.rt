@@ -1,6 +1,6 @@
 // The phandles of an overlay are moved above those of the base.
-ghost use Rattle.std.specs.Prelude.{◌≡◌, ◌⊎◌, ◌<◌, Some, None, Ok, Err, IfOk, IfErr, OnOk, IsTrue, length, map, drop, All, option_and_then};
-ghost use Rattle.fdt_tree.specs.Tree.{find_place, is_property_name};
+ghost use Rattle.std.specs.Prelude.{◌≡◌, ◌⊎◌, ◌<◌, Some, None, Ok, Err, IfOk, IfErr, OnOk, length, map, drop, All, option_and_then};
+ghost use Rattle.fdt_tree.specs.Tree.{find_place};
 ghost use Rattle.fdt_tree.specs.Document.{properties_of};
 ghost use Rattle.fdt_nodes.specs.Nodes.{shown};
 ghost use Rattle.fdt_nodes.specs.Held.{node_of};
@@ -10,47 +10,21 @@ ghost use Rattle.fdt_overlay.specs.Shift.{local_path, local_fixups, moved_by_pro
 use crate::copies::copy_moved;
 use crate::fault::OverlayFault;
 use crate::held::held;
-use crate::word_values::{ValueFault, moved, with_all_moved};
+use crate::local_words::move_words;
+use crate::word_values::{ValueFault, moved};
 use fdt_nodes::{descendants, found, path};
 use fdt_tree::{NodeId, Tree, highest_phandle};
+use indexed_tree::IndexedTree;
 use std::alloc::Global;
 
 /// How many bytes the path of the node of local fixups has, which is `/__local_fixups__`.
 const LOCAL_PATH_LENGTH: usize = 17;
 
-/// The words that one property of local fixups lists, moved up in the property of that name at the node that a path
-/// finds. The path finds the same node afterwards.
-fn move_words(
-    alloc: Global,
-    by: u32,
-    tree: &mut Tree,
-    path: &[u8],
-    name: &[u8],
-    offsets: &[u8],
-) -> Result<(), ValueFault>
-    requires property_name { IsTrue (is_property_name name.now) }
-    ensures ok { OnOk result (option_and_then (λ place. moved_by_property by place tree.old.tree (name.now, offsets.now)) (find_place tree.old.tree path.now) ≡ Some tree.new.tree) }
-    ensures found { OnOk result (find_place tree.new.tree path.now ≡ find_place tree.old.tree path.now) }
-    ensures err { IfErr result (λ fault. (fault ≡ ValueFault.Memory) ⊎ ((fault ≡ ValueFault.Missing) × (option_and_then (λ place. moved_by_property by place tree.old.tree (name.now, offsets.now)) (find_place tree.old.tree path.now) ≡ None))) }
-{
-    let Some(node) = tree.find(path) else {
-        return Err(ValueFault::Missing);
-    };
-    let Some(value) = tree.prop(node, name) else {
-        return Err(ValueFault::Missing);
-    };
-    let made = with_all_moved(alloc, by, offsets, value)?;
-    match tree.set(path, name, made.as_slice()) {
-        Ok(()) => Ok(()),
-        Err(_) => Err(ValueFault::Memory),
-    }
-}
-
 /// The words that one node of local fixups lists, moved up in the node that a path finds.
 fn move_words_at(
     alloc: Global,
     by: u32,
-    tree: &mut Tree,
+    tree: &mut IndexedTree,
     path: &[u8],
     overlay: &Tree,
     fixups: NodeId,
@@ -59,16 +33,12 @@ fn move_words_at(
     ensures ok { OnOk result (option_and_then (λ place. all (moved_by_property by place) tree.old.tree (properties_of overlay.now fixups)) (find_place tree.old.tree path.now) ≡ Some tree.new.tree) }
     ensures err { IfErr result (λ fault. (fault ≡ ValueFault.Memory) ⊎ ((fault ≡ ValueFault.Missing) × (option_and_then (λ place. all (moved_by_property by place) tree.old.tree (properties_of overlay.now fixups)) (find_place tree.old.tree path.now) ≡ None))) }
 {
-    overlay.names();
-    let Some(_node) = tree.find(path) else {
+    let Some(node) = tree.find(path) else {
         return Err(ValueFault::Missing);
     };
     for index in 0..overlay.prop_count(fixups) {
         let (name, offsets) = overlay.prop_at(fixups, index);
-        match move_words(alloc, by, tree, path, name, offsets) {
-            Ok(()) => {}
-            Err(fault) => return Err(fault),
-        }
+        move_words(alloc, by, tree, node, name, offsets)?;
     }
     Ok(())
 }
@@ -89,7 +59,7 @@ fn spoken_path(path: &[u8]) -> &[u8]
 fn move_words_of(
     alloc: Global,
     by: u32,
-    tree: &mut Tree,
+    tree: &mut IndexedTree,
     overlay: &Tree,
     fixups: NodeId,
 ) -> Result<(), OverlayFault>
@@ -102,10 +72,7 @@ fn move_words_of(
     match move_words_at(alloc, by, tree, spoken, overlay, fixups) {
         Ok(()) => Ok(()),
         Err(ValueFault::Memory) => Err(OverlayFault::Memory),
-        Err(ValueFault::Missing) => {
-            let name = held(alloc, spoken)?;
-            Err(OverlayFault::BadLocal(name))
-        }
+        Err(ValueFault::Missing) => Err(OverlayFault::BadLocal(held(alloc, spoken)?)),
     }
 }
 
@@ -113,7 +80,7 @@ fn move_words_of(
 fn move_words_of_all(
     alloc: Global,
     by: u32,
-    tree: &mut Tree,
+    tree: &mut IndexedTree,
     overlay: &Tree,
     nodes: &[NodeId],
 ) -> Result<(), OverlayFault>
@@ -122,10 +89,7 @@ fn move_words_of_all(
     ensures refused { IfErr result (λ fault. (fault ≡ OverlayFault.Memory) ⊎ (each (moved_by_node by) tree.old.tree (map (node_of overlay.now) nodes.now) ≡ Err fault)) }
 {
     for index in 0..nodes.len() {
-        match move_words_of(alloc, by, tree, overlay, nodes[index]) {
-            Ok(()) => {}
-            Err(fault) => return Err(fault),
-        }
+        move_words_of(alloc, by, tree, overlay, nodes[index])?;
     }
     Ok(())
 }
@@ -134,7 +98,7 @@ fn move_words_of_all(
 fn move_local_words(
     alloc: Global,
     by: u32,
-    tree: &mut Tree,
+    tree: &mut IndexedTree,
     overlay: &Tree,
 ) -> Result<(), OverlayFault>
     ensures ok { OnOk result (each (moved_by_node by) tree.old.tree (local_fixups overlay.now.tree) ≡ Ok tree.new.tree) }
@@ -144,10 +108,8 @@ fn move_local_words(
         return Ok(());
     };
     let below = descendants(alloc, overlay, node)?;
-    match move_words_of(alloc, by, tree, overlay, node) {
-        Ok(()) => move_words_of_all(alloc, by, tree, overlay, below.as_slice()),
-        Err(fault) => Err(fault),
-    }
+    move_words_of(alloc, by, tree, overlay, node)?;
+    move_words_of_all(alloc, by, tree, overlay, below.as_slice())
 }
 
 /// An overlay with its phandles above those of a base, and with them the words that hold them: `PhandleRange` where the
@@ -161,8 +123,6 @@ pub(crate) fn shift(alloc: Global, base: &Tree, overlay: &Tree) -> Result<Tree, 
         return Err(OverlayFault::PhandleRange);
     };
     let mut tree = copy_moved(alloc, by, overlay)?;
-    match move_local_words(alloc, by, &mut tree, overlay) {
-        Ok(()) => Ok(tree),
-        Err(fault) => Err(fault),
-    }
+    move_local_words(alloc, by, &mut tree, overlay)?;
+    Ok(tree.into_tree()?)
 }

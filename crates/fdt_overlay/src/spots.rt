@@ -3,10 +3,9 @@ ghost use Rattle.std.specs.Prelude.{◌≡◌, ◌⊎◌, ◌^◌, ◌-◌, ℕ,
 ghost use Rattle.fdt_overlay.specs.Resolve.{Spot, spot_of, decimal_of, with_spot, with_string, with_strings};
 
 use crate::digits::decimal_of;
-use crate::word_values::{ValueFault, replaced};
+use crate::word_values::{ValueFault, word_of};
 use dl_base::cut;
-use fdt_tree::Tree;
-use std::alloc::Global;
+use indexed_tree::IndexedTree;
 
 /// The path, the name and the digits of a string `PATH:PROP:OFFSET`, where it has just two colons and no part is empty.
 fn parts(string: &[u8]) -> Option<(&[u8], &[u8], &[u8])>
@@ -21,13 +20,7 @@ fn parts(string: &[u8]) -> Option<(&[u8], &[u8], &[u8])>
     if cut(digits, b':').is_some() {
         return None;
     }
-    if path.is_empty() {
-        return None;
-    }
-    if name.is_empty() {
-        return None;
-    }
-    if digits.is_empty() {
+    if path.is_empty() || name.is_empty() || digits.is_empty() {
         return None;
     }
     Some((path, name, digits))
@@ -36,9 +29,8 @@ fn parts(string: &[u8]) -> Option<(&[u8], &[u8], &[u8])>
 /// The tree with a number at a word of its own, which a path, a name and an offset say. The greatest offset stands for all
 /// beyond it, too.
 fn put_word(
-    alloc: Global,
     number: u32,
-    tree: &mut Tree,
+    tree: &mut IndexedTree,
     path: &[u8],
     name: &[u8],
     offset: usize,
@@ -46,26 +38,18 @@ fn put_word(
     ensures ok { (wanted : ℕ) → offset ≡ min wanted (2 ^ 64 - 1) → OnOk result (with_spot number tree.old.tree (record { path = path.now; name = name.now; offset = wanted }) ≡ Some tree.new.tree) }
     ensures err { (wanted : ℕ) → offset ≡ min wanted (2 ^ 64 - 1) → IfErr result (λ fault. (fault ≡ ValueFault.Memory) ⊎ ((fault ≡ ValueFault.Missing) × (with_spot number tree.old.tree (record { path = path.now; name = name.now; offset = wanted }) ≡ None))) }
 {
-    tree.names();
     let Some(node) = tree.find(path) else {
         return Err(ValueFault::Missing);
     };
-    let Some(value) = tree.prop(node, name) else {
+    let Some(_) = word_of(tree, node, name, offset) else {
         return Err(ValueFault::Missing);
     };
-    let length = value.len();
-    if offset >= length {
-        return Err(ValueFault::Missing);
-    }
-    let made = replaced(alloc, number, value, offset)?;
-    match tree.set(path, name, made.as_slice()) {
-        Ok(()) => Ok(()),
-        Err(_) => Err(ValueFault::Memory),
-    }
+    tree.put_word(node, name, offset, number)?;
+    Ok(())
 }
 
 /// The tree with a number at the word that a string names.
-fn put_string(alloc: Global, number: u32, tree: &mut Tree, string: &[u8]) -> Result<(), ValueFault>
+fn put_string(number: u32, tree: &mut IndexedTree, string: &[u8]) -> Result<(), ValueFault>
     ensures ok { OnOk result (with_string number tree.old.tree string.now ≡ Some tree.new.tree) }
     ensures err { IfErr result (λ fault. (fault ≡ ValueFault.Memory) ⊎ ((fault ≡ ValueFault.Missing) × (with_string number tree.old.tree string.now ≡ None))) }
 {
@@ -75,14 +59,13 @@ fn put_string(alloc: Global, number: u32, tree: &mut Tree, string: &[u8]) -> Res
     let Some(offset) = decimal_of(digits) else {
         return Err(ValueFault::Missing);
     };
-    put_word(alloc, number, tree, path, name, offset)
+    put_word(number, tree, path, name, offset)
 }
 
 /// The tree with a number at the words that the strings of a value name.
 pub(crate) fn put_strings(
-    alloc: Global,
     number: u32,
-    tree: &mut Tree,
+    tree: &mut IndexedTree,
     value: &[u8],
 ) -> Result<(), ValueFault>
     ensures ok { OnOk result (with_strings number tree.old.tree value.now ≡ Some tree.new.tree) }
@@ -90,10 +73,7 @@ pub(crate) fn put_strings(
 {
     let mut rest = value;
     while let Some((string, after)) = cut(rest, 0) {
-        match put_string(alloc, number, tree, string) {
-            Ok(()) => {}
-            Err(fault) => return Err(fault),
-        }
+        put_string(number, tree, string)?;
         rest = after;
     }
     if rest.is_empty() {

@@ -1,10 +1,14 @@
-// The words of a value.
-ghost use Rattle.std.specs.Prelude.{◌≡◌, ◌⊎◌, ◌<◌, ◌≤◌, Some, None, IfSome, IfOk, IfErr, length, ◌+◌};
-ghost use Rattle.fdt_overlay.specs.Words.{last_phandle, moved, word_at, with_word, replaced, with_moved, with_all_moved};
+// The words of values.
+ghost use Rattle.std.specs.Prelude.{◌≡◌, ◌⊎◌, ◌<◌, ◌≤◌, ◌+◌, ◌-◌, ◌^◌, Some, None, IfSome, IsSomeAnd, IfOk, IfErr, length, option_and_then};
+ghost use Rattle.fdt_tree.specs.Tree.{property_of};
+ghost use Rattle.fdt_tree.specs.Document.{properties_of};
+ghost use Rattle.indexed_tree.specs.Words.{with_word};
+ghost use Rattle.fdt_overlay.specs.Words.{moved, word_at, with_moved, with_all_moved};
 ghost use Rattle.fdt_overlay.specs.declared.word_values.ValueFault.TheVariants.{Memory};
 
 use dl_base::Bytes;
 use fdt_tree::u32_of;
+use indexed_tree::{IndexedNode, IndexedTree};
 use std::alloc::{AllocError, Global};
 
 /// The greatest phandle that there is.
@@ -55,32 +59,30 @@ fn word_at(bytes: &[u8], offset: usize) -> Option<u32>
     }
 }
 
+/// The word at an offset in the value of the first property of a name, where it lies within that value.
+pub(crate) fn word_of(
+    tree: &IndexedTree,
+    node: IndexedNode,
+    name: &[u8],
+    offset: usize,
+) -> Option<u32>
+    requires { node < length tree.now.places }
+    ensures word { result ≡ option_and_then (λ value. word_at value offset) (property_of (properties_of tree.now node) name.now) }
+    ensures within { IfSome result (λ _. IsSomeAnd (property_of (properties_of tree.now node) name.now) (λ value. offset + 4 ≤ length value)) }
+    ensures small { IfSome (property_of (properties_of tree.now node) name.now) (λ value. length value ≤ 2 ^ 64 - 1) }
+{
+    match tree.prop(node, name) {
+        None => None,
+        Some(value) => word_at(value, offset),
+    }
+}
+
 /// Puts another word at an offset.
 fn put_word(bytes: &mut [u8], offset: usize, number: u32)
     requires { offset + 4 ≤ length bytes.old }
     ensures { bytes.new ≡ with_word bytes.old offset number }
 {
     bytes[offset..offset + 4].copy_from_slice(&number.to_be_bytes());
-}
-
-/// The bytes with another word at an offset, where a word lies there.
-pub(crate) fn replaced(
-    alloc: Global,
-    number: u32,
-    bytes: &[u8],
-    offset: usize,
-) -> Result<Bytes, ValueFault>
-    ensures ok { IfOk result (λ made. replaced number bytes.now offset ≡ Some made) }
-    ensures err { IfErr result (λ fault. (fault ≡ ValueFault.Memory) ⊎ ((fault ≡ ValueFault.Missing) × (replaced number bytes.now offset ≡ None))) }
-{
-    match word_at(bytes, offset) {
-        None => Err(ValueFault::Missing),
-        Some(_) => {
-            let mut made = bytes.to_vec(alloc)?;
-            put_word(&mut made, offset, number);
-            Ok(Bytes::from(made))
-        }
-    }
 }
 
 /// The bytes with the word at an offset moved up in its place, where a word lies there that stays a phandle.

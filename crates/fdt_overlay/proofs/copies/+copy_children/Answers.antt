@@ -1,5 +1,5 @@
 use Rattle.std.proofs.Common.{◌≢◌, [], ◌<◌, length}
-use Rattle.fdt_overlay.specs.PrivateCopies.{copied_in}
+use Rattle.fdt_overlay.specs.Shift.{moved_in}
 use Rattle.fdt_tree.specs.Document.{place_of}
 use Rattle.fdt_overlay.proofs.Walks.{first-below, next-below, further, held}
 use Rattle.fdt_overlay.proofs.CopyLemmas.{IsCopied-start, IsCopied-next, IsCopied-end}
@@ -23,7 +23,7 @@ loop-next-preserved t c =
       live = c.next_sibling-next.ensures.live;
       below = next-below c.args.source.now (place_of c.args.source.now c.in-Some.child) c.next_sibling-next.result c.next_sibling-next.ensures.place;
       later = further c.loop-next.next c.args.node c.in-Some.child c.next_sibling-next.result c.in-Some.is c.loop-next.invariant.later c.next_sibling-next.ensures.later;
-      parent = Grows-live c.args.tree.now c.copy_children.new.tree c.args.parent (copied_in c.args.by copied.before) c.args.parent copied.copies c.requires.parent_live;
+      parent = Grows-live c.args.tree.now c.copy_children.new.tree c.args.parent (moved_in c.args.by copied.before) c.args.parent copied.copies c.requires.parent_live;
       copied = copied;
     }
 

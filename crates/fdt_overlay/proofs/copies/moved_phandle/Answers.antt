@@ -6,4 +6,4 @@ use Rattle.fdt_overlay.proofs.copies.moved_phandle.Goals as goal
 pub overflow_add-result : goal.overflow_add-result
 overflow_add-result c =
     let ps = properties_of c.args.source.now c.args.node in
-    let fits = moved-fits c.args.by c.in-Some.more c.in-Some-u32_at.phandle ps c.in-Some.is (sym c.in-Some-u32_at.is ∙ c.u32_at.ensures) (c.requires.can_move c.args.node c.requires.live) in omega (arith, fits)
+    let fits = moved-fits c.args.by c.in-Some.phandle ps (sym c.in-Some.is ∙ c.u32_at.ensures) (c.requires.can_move c.args.node c.requires.live) in omega (arith, fits)

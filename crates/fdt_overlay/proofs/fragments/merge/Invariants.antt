@@ -8,7 +8,7 @@ use Rattle.fdt_overlay.proofs.fragments.merge.Given as goal
 abbrev pub invariant-loop-next : goal.invariant-loop-next
 invariant-loop-next l = record {
   live : IfSome l.next (λ child. child < length l.overlay.places);
-  left : IsLeft l.base.tree l.overlay l.next l.made.tree;
+  left : IsLeft l.fn.base.tree l.overlay l.next l.made.tree;
 }
 
 abbrev pub decreases-loop-next : goal.decreases-loop-next

@@ -1,4 +1,4 @@
-use Rattle.std.proofs.Common.{◌≡◌, ◌∙◌, ap, inl, inr, length, arith}
+use Rattle.std.proofs.Common.{rules, ◌≡◌, ◌∙◌, ap, inl, inr, length, arith, Err}
 use Rattle.fdt_tree.specs.Tree.{Property}
 use Rattle.fdt_tree.specs.Document.{properties_of}
 use Rattle.std.specs.Prelude.{codes}
@@ -12,16 +12,17 @@ pub loop-index-preserved : goal.loop-index-preserved
 loop-index-preserved c =
     let ps = properties_of c.args.overlay.now c.in-Some.fixups in
     let label : Property = (c.prop_at.result.0.now, c.prop_at.result.1.now) in
-    c.loop-index.invariant ∙ each-next (with_label c.args.base.now.tree) c.loop-index.tree.tree c.put_label.new.tree.tree ps c.loop-index.index label c.prop_at.ensures c.in-Ok.ensures.ok
+    c.loop-index.invariant ∙ each-next (with_label c.args.base.now.tree) c.loop-index.tree.tree c.put_label.new.tree.tree ps c.loop-index.index label c.prop_at.ensures c.in_ok-put_label.ensures.ok
 
-pub returns-in-Err-clause-refused : goal.returns-in-Err-clause-refused
-returns-in-Err-clause-refused c =
+pub returns-in_err-put_label-clause-refused : goal.returns-in_err-put_label-clause-refused
+returns-in_err-put_label-clause-refused c =
     let ps = properties_of c.args.overlay.now c.in-Some.fixups in
     let label : Property = (c.prop_at.result.0.now, c.prop_at.result.1.now) in
     let found = ap (each (with_label c.args.base.now.tree) c.args.tree.now.tree) (found-properties c.args.overlay.now c.in-Some.fixups (codes "/__fixups__") c.in-Some.ensures.place) in
-    elim c.in-Err.ensures.refused [
+    let handed : c.from_residual.result ≡ Err (c.in_err-put_label.field-0.0) = search rules in
+    rw handed elim c.in_err-put_label.ensures.refused [
       | inl memory ↦ inl memory
-      | inr stop ↦ inr (found ∙ (c.loop-index.invariant ∙ each-stop (with_label c.args.base.now.tree) c.loop-index.tree.tree c.in-Err.fault ps c.loop-index.index label c.prop_at.ensures stop))
+      | inr stop ↦ inr (found ∙ (c.loop-index.invariant ∙ each-stop (with_label c.args.base.now.tree) c.loop-index.tree.tree (c.in_err-put_label.field-0.0) ps c.loop-index.index label c.prop_at.ensures stop))
     ]
 
 pub returns-clause-ok : goal.returns-clause-ok

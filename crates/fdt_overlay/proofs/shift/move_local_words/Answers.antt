@@ -7,14 +7,14 @@ use Rattle.fdt_overlay.specs.declared.fault.OverlayFault.TheVariants.{Memory}
 use Rattle.fdt_overlay.proofs.LocalLemmas.{local-next}
 use Rattle.fdt_overlay.proofs.shift.move_local_words.Goals as goal
 
-pub returns-in-Ok-clause-ok : goal.returns-in-Ok-clause-ok
-returns-in-Ok-clause-ok c =
+pub returns-clause-ok : goal.returns-clause-ok
+returns-clause-ok c =
     let f = node_of c.args.overlay.now in
-    let next = local-next c.args.by c.args.tree.now.tree c.move_words_of.new.tree.tree c.args.overlay.now.tree (f c.in-Some.node) (map f c.as_slice.result.now) c.in-Some.ensures.node (ap (map f) c.as_slice.ensures ∙ c.in_ok-below.ensures.are) c.in-Ok.ensures.ok in
+    let next = local-next c.args.by c.args.tree.now.tree c.move_words_of.new.tree.tree c.args.overlay.now.tree (f c.in-Some.node) (map f c.as_slice.result.now) c.in-Some.ensures.node (ap (map f) c.as_slice.ensures ∙ c.in_ok-below.ensures.are) c.in_ok-move_words_of.ensures.ok in
     subst (λ (r : Result Tree OverlayFault). OnOk c.move_words_of_all.result (r ≡ Ok c.move_words_of_all.new.tree.tree)) (sym next) c.move_words_of_all.ensures.ok
 
-pub returns-in-Ok-clause-refused : goal.returns-in-Ok-clause-refused
-returns-in-Ok-clause-refused c =
+pub returns-clause-refused : goal.returns-clause-refused
+returns-clause-refused c =
     let f = node_of c.args.overlay.now in
-    let next = local-next c.args.by c.args.tree.now.tree c.move_words_of.new.tree.tree c.args.overlay.now.tree (f c.in-Some.node) (map f c.as_slice.result.now) c.in-Some.ensures.node (ap (map f) c.as_slice.ensures ∙ c.in_ok-below.ensures.are) c.in-Ok.ensures.ok in
+    let next = local-next c.args.by c.args.tree.now.tree c.move_words_of.new.tree.tree c.args.overlay.now.tree (f c.in-Some.node) (map f c.as_slice.result.now) c.in-Some.ensures.node (ap (map f) c.as_slice.ensures ∙ c.in_ok-below.ensures.are) c.in_ok-move_words_of.ensures.ok in
     subst (λ (r : Result Tree OverlayFault). IfErr c.move_words_of_all.result (λ fault. (fault ≡ Memory) ⊎ (r ≡ Err fault))) (sym next) c.move_words_of_all.ensures.refused

@@ -1,37 +1,43 @@
-use Rattle.std.proofs.Common.{◌≡◌, ◌∙◌, inl, inr, sym, subst, refl, length, arith}
-use Rattle.std.specs.Prelude.{IsSome, Option}
+use Rattle.std.proofs.Common.{rules, ◌≡◌, ◌∙◌, ap, inl, inr, subst, length, arith, None, Some, Err}
 use Rattle.fdt_tree.specs.Tree.{Property, Place}
-use Rattle.fdt_tree.specs.Document.{properties_of}
+use Rattle.fdt_tree.specs.Document.{place_of, properties_of}
+use Rattle.fdt_overlay.specs.Turns.{all}
 use Rattle.fdt_overlay.specs.Shift.{moved_by_property}
-use Rattle.fdt_overlay.proofs.ShiftLemmas.{named-at}
-use Rattle.fdt_overlay.proofs.FoundLemmas.{found-next, found-stop, found-end}
+use Rattle.fdt_overlay.proofs.ShiftLemmas.{same-place, at-found}
+use Rattle.fdt_overlay.proofs.TurnLemmas.{all-next, all-stop, all-end}
 use Rattle.fdt_overlay.proofs.shift.move_words_at.Goals as goal
-
-pub move_words-requires : goal.move_words-requires
-move_words-requires c = record {
-  property_name = named-at (properties_of c.args.overlay.now c.args.fixups) c.loop-index.index c.prop_at.result.0.now c.prop_at.result.1.now (c.names.ensures.properties c.args.fixups c.requires.live) c.prop_at.ensures;
-}
 
 pub loop-index-preserved : goal.loop-index-preserved
 loop-index-preserved c =
     let ps = properties_of c.args.overlay.now c.args.fixups in
+    let place = place_of c.args.tree.now c.in-Some.node in
     let fixup : Property = (c.prop_at.result.0.now, c.prop_at.result.1.now) in
+    let same : place_of c.loop-index.tree c.in-Some.node ≡ place = same-place c.args.tree.now c.loop-index.tree c.in-Some.node c.loop-index.invariant.places in
+    let done = subst (λ (p : Place). moved_by_property c.args.by p c.loop-index.tree.tree fixup ≡ Some c.move_words.new.tree.tree) same c.in_ok-move_words.ensures.ok in
+    let places = c.in_ok-move_words.ensures.places in
     record {
-      found = c.in-Ok.ensures.found ∙ c.loop-index.invariant.found;
-      whole = c.loop-index.invariant.whole ∙ found-next (moved_by_property c.args.by) c.args.path.now c.loop-index.tree.tree c.move_words.new.tree.tree ps c.loop-index.index fixup c.prop_at.ensures c.in-Ok.ensures.ok c.in-Ok.ensures.found;
+      live = (let count = ap (λ qs. length qs) places in omega (arith, count, c.loop-index.invariant.live));
+      places = places ∙ c.loop-index.invariant.places;
+      whole = c.loop-index.invariant.whole ∙ all-next (moved_by_property c.args.by place) c.loop-index.tree.tree c.move_words.new.tree.tree ps c.loop-index.index fixup c.prop_at.ensures done;
     }
 
-pub returns-in-Err-clause-err : goal.returns-in-Err-clause-err
-returns-in-Err-clause-err c =
+pub returns-in_err-move_words-clause-err : goal.returns-in_err-move_words-clause-err
+returns-in_err-move_words-clause-err c =
     let ps = properties_of c.args.overlay.now c.args.fixups in
+    let place = place_of c.args.tree.now c.in-Some.node in
     let fixup : Property = (c.prop_at.result.0.now, c.prop_at.result.1.now) in
-    elim c.in-Err.ensures.err [
+    let same : place_of c.loop-index.tree c.in-Some.node ≡ place = same-place c.args.tree.now c.loop-index.tree c.in-Some.node c.loop-index.invariant.places in
+    let handed : c.from_residual.result ≡ Err (c.in_err-move_words.field-0.0) = search rules in
+    rw handed elim c.in_err-move_words.ensures.err [
       | inl memory ↦ inl memory
-      | inr missing ↦ inr (missing.0, c.loop-index.invariant.whole ∙ found-stop (moved_by_property c.args.by) c.args.path.now c.loop-index.tree.tree ps c.loop-index.index fixup c.prop_at.ensures missing.1)
+      | inr missing ↦
+          let stop = subst (λ (p : Place). moved_by_property c.args.by p c.loop-index.tree.tree fixup ≡ None) same missing.1 in
+          inr (missing.0, at-found c.args.tree.now c.in-Some.node _ (λ p. all (moved_by_property c.args.by p) c.args.tree.now.tree ps) None c.in-Some.ensures.place (c.loop-index.invariant.whole ∙ all-stop (moved_by_property c.args.by place) c.loop-index.tree.tree ps c.loop-index.index fixup c.prop_at.ensures stop))
     ]
 
 pub returns-clause-ok : goal.returns-clause-ok
 returns-clause-ok c =
     let ps = properties_of c.args.overlay.now c.args.fixups in
+    let place = place_of c.args.tree.now c.in-Some.node in
     let end : c.loop-index.index ≡ length ps = omega (arith, c.prop_count-index-end.ensures) in
-    c.loop-index.invariant.whole ∙ found-end (moved_by_property c.args.by) c.args.path.now c.loop-index.tree.tree ps c.loop-index.index end (subst (λ (o : Option Place). IsSome o) (c.in-Some.ensures.place ∙ sym c.loop-index.invariant.found) refl)
+    at-found c.args.tree.now c.in-Some.node _ (λ p. all (moved_by_property c.args.by p) c.args.tree.now.tree ps) (Some c.loop-index.tree.tree) c.in-Some.ensures.place (c.loop-index.invariant.whole ∙ all-end (moved_by_property c.args.by place) c.loop-index.tree.tree ps c.loop-index.index end)

@@ -17,5 +17,5 @@ returns-clause-refused c =
     let same : c.spoken_path-spoken.result.now ≡ spoken_path node = c.spoken_path-spoken.ensures ∙ (ap (λ path. shown (drop 17 path)) (c.as_slice.ensures ∙ c.in_ok-own.ensures) ∙ ap shown (behind-shown node.path)) in
     elim c.in-Err-Missing.ensures.err [
       | inl memory ↦ let missing = c.in-Err-Missing.field-0-is in absurd (cc)
-      | inr missing ↦ inr (node-missing c.args.by c.args.tree.now.tree node c.spoken_path-spoken.result.now c.in_ok-name-in-Err-Missing.name same c.in_ok-name-in-Err-Missing.ensures missing.1)
+      | inr missing ↦ inr (node-missing c.args.by c.args.tree.now.tree node c.spoken_path-spoken.result.now c.in_ok-held-in-Err-Missing.field-0 same c.in_ok-held-in-Err-Missing.ensures missing.1)
     ]

@@ -1,6 +1,6 @@
 use Rattle.std.proofs.Common.{◌<◌, ◌-◌, length, IfSome, unwrap_or}
 use Rattle.fdt_tree.proofs.Siblings.{Comes}
-use Rattle.fdt_overlay.proofs.merge.child_named.Given as goal
+use Rattle.fdt_overlay.proofs.children.child_named.Given as goal
 
 -- no child before the next one has the name
 abbrev pub invariant-loop-next : goal.invariant-loop-next

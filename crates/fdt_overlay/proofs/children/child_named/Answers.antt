@@ -3,7 +3,7 @@ use Rattle.std.specs.Prelude.{bytes_eq}
 use Rattle.fdt_tree.specs.Document.{name_of}
 use Rattle.fdt_tree.proofs.Siblings.{standing, starts, goes_on}
 use Rattle.fdt_overlay.proofs.ChildWalks.{child-found, no-child}
-use Rattle.fdt_overlay.proofs.merge.child_named.Goals as goal
+use Rattle.fdt_overlay.proofs.children.child_named.Goals as goal
 
 pub loop-next-init : goal.loop-next-init
 loop-next-init c =
