@@ -7,9 +7,9 @@ use Rattle.std.proofs.lemmas.List.Elements.{All-head, All-tail}
 use Rattle.std.proofs.lemmas.List.Sums.{count_by-le-length, length-filter, sum-map, sum_by-cons}
 use Rattle.build_report.specs.Lines.{ram_pages}
 use Rattle.build_report.proofs.Bounds.{few_pages}
-use Rattle.dl_base.specs.Maps.{AreMapRanges}
-use Rattle.dl_base.specs.declared.why.Why.{Why}
-use Rattle.dl_base.specs.declared.why.Why.TheVariants.{NoTableFrame}
+use Rattle.described.specs.Maps.{AreMapRanges}
+use Rattle.described.specs.declared.why.Why.{Why}
+use Rattle.described.specs.declared.why.Why.TheVariants.{NoTableFrame}
 use Rattle.domain_plan.specs.Refusals.{Refusal, or_later}
 use Rattle.domain_plan.specs.declared.planned.GuestPlan.{GuestPlan}
 use Rattle.frame_alloc.specs.Frames.{AreFramesFrom, is_within, lowest_pair, without}

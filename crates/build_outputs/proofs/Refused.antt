@@ -2,8 +2,8 @@
 use Rattle.std.proofs.Common.{◌≡◌, ◌≤◌, ◌<◌, ◌∙◌, refl, sym, ap, subst, arith, inl, inr, ℕ, Bool, true, false, List, length, Some, None}
 use Rattle.std.specs.Prelude.{Option, Result, Ok, Err, nat_lt, if◌then◌else◌}
 use Rattle.std.specs.Option.{option_or}
-use Rattle.dl_base.specs.declared.item.Item.{Item}
-use Rattle.dl_base.specs.declared.why.Why.{Why}
+use Rattle.described.specs.declared.item.Item.{Item}
+use Rattle.described.specs.declared.why.Why.{Why}
 use Rattle.domain_plan.specs.Refusals.{Refusal, or_later}
 use Rattle.domain_plan.specs.declared.planned.PlanFault.{PlanFault}
 use Rattle.domain_plan.specs.declared.planned.PlanFault.TheVariants as plan_faults
@@ -23,7 +23,7 @@ use Rattle.build_outputs.specs.Lengths.{tree_item, too_long, tree_too_long, refu
 use Rattle.build_outputs.specs.Names.{host_name}
 use Rattle.build_outputs.specs.Outputs.{host_output, tree_outputs, written_trees}
 use Rattle.build_outputs.specs.PrivateTooLong.{IsLengthStop, IsFirstLengthStop}
-use Rattle.dl_base.specs.Outside.{File}
+use Rattle.outside.specs.Outside.{File}
 
 -- a test of lengths
 too_long_where : (bytes : List ℕ) (test : Bool) → nat_lt length_limit (length bytes) ≡ test → tree_too_long bytes ≡ (if test then Some (too_long (length bytes)) else None)

@@ -2,8 +2,8 @@
 use Rattle.std.proofs.Common.{◌≡◌, ◌≤◌, ◌<◌, ◌∙◌, ◌+◌, refl, sym, ap, subst, arith, inl, inr, ℕ, suc, zero, List, [], ◌∷◌, ◌++◌, length, take, drop, drop-cons, get_or, Some, None}
 use Rattle.std.specs.Prelude.{◌⊎◌, Option, slice_get}
 use Rattle.std.proofs.lemmas.List.{take_more, take_all, take-append-drop, length-take-le}
-use Rattle.dl_base.specs.Outside.{File}
-use Rattle.dl_base.specs.declared.why.Why.{Why}
+use Rattle.outside.specs.Outside.{File}
+use Rattle.described.specs.declared.why.Why.{Why}
 use Rattle.domain_plan.specs.Refusals.{or_later}
 use Rattle.domain_plan.specs.declared.planned.GuestPlan.{GuestPlan}
 use Rattle.fdt_tree.specs.Tree.{Tree}

@@ -3,7 +3,7 @@ use Rattle.std.proofs.Common.{◌≡◌, ◌∙◌, ap, refl, ℕ, List, [], ◌
 use Rattle.std.specs.Prelude.{Option}
 use Rattle.std.specs.List.{zip, flat_map}
 use denote.Ref.{Bor}
-use Rattle.dl_base.specs.Outside.{File}
+use Rattle.outside.specs.Outside.{File}
 use Rattle.domain_plan.specs.declared.planned.GuestPlan.{GuestPlan}
 use Rattle.guest_images.specs.Built.{files_in}
 use Rattle.guest_images.specs.declared.images.GuestImage.{GuestImage}

@@ -1,7 +1,7 @@
 -- What a build of a description makes, or the first item that is refused.
 use Rattle.std.specs.Prelude.{ℕ, Option, Some, None, Result, Ok, Err}
 use Rattle.std.specs.Option.{option_or}
-use Rattle.dl_base.specs.declared.status.Status.TheVariants as statuses
+use Rattle.outside.specs.declared.status.Status.TheVariants as statuses
 use Rattle.domain_plan.specs.Refusals.{Refusal}
 use Rattle.guest_images.specs.Requests.{refused_tables}
 use Rattle.run_steps.specs.Endings.{Outcome}

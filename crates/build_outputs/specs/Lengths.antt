@@ -1,10 +1,10 @@
 -- Trees that are too long to be written are refused as items of their own.
 use Rattle.std.specs.Prelude.{ℕ, ◌-◌, ◌^◌, nat_lt, min, if◌then◌else◌, List, [], ◌∷◌, length, Option, Some, None}
-use Rattle.dl_base.specs.Outside.{File}
-use Rattle.dl_base.specs.declared.item.Item.{Item}
-use Rattle.dl_base.specs.declared.item.Part.TheVariants as parts
-use Rattle.dl_base.specs.declared.why.Why.{Why}
-use Rattle.dl_base.specs.declared.why.Why.TheVariants.{TreeTooLong}
+use Rattle.outside.specs.Outside.{File}
+use Rattle.described.specs.declared.item.Item.{Item}
+use Rattle.described.specs.declared.item.Part.TheVariants as parts
+use Rattle.described.specs.declared.why.Why.{Why}
+use Rattle.described.specs.declared.why.Why.TheVariants.{TreeTooLong}
 use Rattle.domain_plan.specs.Refusals.{Refusal, or_later}
 use Rattle.fdt_write.specs.Flattened.{length_limit}
 

@@ -1,6 +1,6 @@
 -- The files that the code makes.
 use Rattle.std.specs.Prelude.{List, map}
-use Rattle.dl_base.specs.Outside.{File}
+use Rattle.outside.specs.Outside.{File}
 use Rattle.run_steps.specs.Outputs.{file_of}
 use Rattle.run_steps.specs.declared.output.Output.{Output}
 

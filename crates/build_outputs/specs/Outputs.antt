@@ -1,7 +1,7 @@
 -- The files that a build writes, in their order, and its report.
 use Rattle.std.specs.Prelude.{ℕ, ◌+◌, List, [], ◌∷◌, length, map, Option}
 use Rattle.std.specs.List.{zip, flat_map}
-use Rattle.dl_base.specs.Outside.{File}
+use Rattle.outside.specs.Outside.{File}
 use Rattle.fdt_tree.specs.Tree.{Tree}
 use Rattle.domain_plan.specs.declared.planned.GuestPlan.{GuestPlan}
 use Rattle.fdt_write.specs.Flattened.{flattened}

@@ -1,6 +1,6 @@
 -- Only private contracts and proofs use this file: the stop at the first of some trees that is too long.
 use Rattle.std.specs.Prelude.{◌≡◌, ◌<◌, ◌⊎◌, List, length, Some}
-use Rattle.dl_base.specs.Outside.{File}
+use Rattle.outside.specs.Outside.{File}
 use Rattle.domain_plan.specs.Refusals.{Refusal}
 use Rattle.fdt_write.specs.Flattened.{length_limit}
 use Rattle.run_steps.specs.Stops.{IsOwnDue}

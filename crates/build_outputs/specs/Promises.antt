@@ -1,7 +1,7 @@
 -- What a build promises of what it writes.
 use Rattle.std.specs.Prelude.{◌≡◌, ℕ, List, [], Option, Some, Ok, flat_map, slice_get}
-use Rattle.dl_base.specs.Outside.{File}
-use Rattle.dl_base.specs.Consecutive.{is_in}
+use Rattle.outside.specs.Outside.{File}
+use Rattle.texts.specs.Consecutive.{is_in}
 use Rattle.domain_plan.specs.Memories.{is_ram}
 use Rattle.domain_plan.specs.declared.planned.GuestPlan.{GuestPlan}
 use Rattle.fdt_read.specs.Spells.{Spells}

@@ -17,13 +17,14 @@ use crate::report::make_report;
 use crate::totals::{Totals, count_totals};
 use crate::trees::write_trees;
 use crate::written::{name_images, put_in_turn};
-use dl_base::{Bytes, List, Loaded};
+use described::Loaded;
 use domain_plan::Plan;
 use fdt_tree::{Reserve, Tree};
 use guest_fdt::laws::{plans_are_bounded, plans_are_few, trees_list_the_guests};
 use guest_images::build_images;
 use run_steps::{Output, Stop};
 use std::alloc::Global;
+use texts::{Bytes, List};
 use tree_plan::plan_tree;
 
 /// What a build writes.

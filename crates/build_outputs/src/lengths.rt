@@ -9,11 +9,12 @@ ghost use Rattle.build_outputs.specs.Lengths.{tree_item};
 ghost use Rattle.build_outputs.specs.PrivateTooLong.{IsLengthStop};
 
 use crate::refusals::refused;
-use dl_base::{Bytes, Item, Part, Why};
+use described::{Item, Part, Why};
 use fdt_tree::{Reserve, Tree};
 use fdt_write::{WriteFault, write};
 use run_steps::Stop;
 use std::alloc::{AllocError, Global};
+use texts::Bytes;
 
 /// A tree as it is written under a name; or the stop at its length.
 pub(crate) fn write_tree(

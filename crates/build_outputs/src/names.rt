@@ -4,9 +4,9 @@ ghost use Rattle.std.specs.Option.{option_copied};
 ghost use Rattle.run_steps.specs.Names.{joined};
 ghost use Rattle.build_outputs.specs.Names.{guest_name, image_name, tree_name};
 
-use dl_base::Text;
 use run_steps::join;
 use std::alloc::{AllocError, Global};
+use texts::Text;
 
 /// The name of the host's tree.
 pub(crate) const HOST: &str = "host.dtb";

@@ -5,9 +5,10 @@ ghost use Rattle.run_steps.specs.Stops.{IsOwnDue};
 ghost use Rattle.domain_plan.specs.Refusals.{Refusal};
 ghost use Rattle.build_outputs.specs.Builds.{IsItemRefusal};
 
-use dl_base::{Item, Status, Why};
+use described::{Item, Why};
 use domain_plan::PlanFault;
 use guest_images::ImagesFault;
+use outside::Status;
 use run_steps::{Stop, make_refused_message};
 use std::alloc::Global;
 

@@ -1,16 +1,16 @@
 //! The report of a build.
 ghost use Rattle.std.specs.Prelude.{◌≡◌, All, IfOk, map};
-ghost use Rattle.dl_base.specs.Maps.{AreMapRanges};
+ghost use Rattle.described.specs.Maps.{AreMapRanges};
 ghost use Rattle.guest_images.specs.Built.{tables_counted};
 ghost use Rattle.guest_images.specs.Requests.{tables_needed};
 ghost use Rattle.build_report.specs.Report.{report as the_report};
 ghost use Rattle.build_outputs.specs.Outputs.{with_tables};
 
 use build_report::{append_free, append_guest};
-use dl_base::Bytes;
 use domain_plan::GuestPlan;
 use guest_images::GuestImage;
 use std::alloc::{AllocError, Global};
+use texts::Bytes;
 
 /// The report of guests that have these images, where so many frames are left.
 pub(crate) fn make_report(

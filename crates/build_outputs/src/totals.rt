@@ -1,6 +1,6 @@
 //! What a build comes to over all guests.
 ghost use Rattle.std.specs.Prelude.{◌≡◌, ◌<◌, ◌^◌, All, length, map, sum_by};
-ghost use Rattle.dl_base.specs.Maps.{AreMapRanges};
+ghost use Rattle.described.specs.Maps.{AreMapRanges};
 ghost use Rattle.guest_images.specs.Built.{tables_counted};
 ghost use Rattle.guest_images.specs.Requests.{tables_needed};
 ghost use Rattle.build_outputs.specs.Totals.{all_pages, all_tables};

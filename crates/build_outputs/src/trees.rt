@@ -16,13 +16,13 @@ ghost use Rattle.build_outputs.specs.PrivateTooLong.{IsFirstLengthStop, IsLength
 
 use crate::lengths::write_tree;
 use crate::names::make_tree_name;
-use dl_base::{Bytes, List};
 use domain_plan::GuestPlan;
 use fdt_tree::Tree;
 use fdt_write::laws::written_is_read;
 use guest_fdt::build_tree;
 use run_steps::{Output, Stop, join};
 use std::alloc::{AllocError, Global};
+use texts::{Bytes, List};
 
 /// The trees of guests as files, each with the guest's partial tree, where that was read; or the stop at the first that is
 /// too long to be written.

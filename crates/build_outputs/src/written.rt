@@ -8,11 +8,11 @@ ghost use Rattle.build_outputs.specs.Names.{host_name};
 ghost use Rattle.build_outputs.specs.Outputs.{image_outputs, in_folder, in_turn};
 
 use crate::names::{HOST, make_image_name};
-use dl_base::{Bytes, List};
 use domain_plan::GuestPlan;
 use guest_images::GuestImage;
 use run_steps::{Output, join};
 use std::alloc::{AllocError, Global};
+use texts::{Bytes, List};
 
 /// The images of guests as files.
 pub(crate) fn name_images(

@@ -1,9 +1,9 @@
 -- The lines of a report.
 use Rattle.std.specs.Prelude.{ℕ, ◌*◌, ◌==◌, ◌++◌, List, [], ◌∷◌, codes, decimal, if◌then◌else◌, sum_by}
-use Rattle.dl_base.specs.NumberTexts.{hexadecimal}
-use Rattle.dl_base.specs.declared.ranges.Kind.{Kind}
-use Rattle.dl_base.specs.declared.ranges.Kind.TheVariants.{Ram, Device, Shared}
-use Rattle.dl_base.specs.declared.ranges.MapRange.{MapRange}
+use Rattle.texts.specs.NumberTexts.{hexadecimal}
+use Rattle.described.specs.declared.map_range.Kind.{Kind}
+use Rattle.described.specs.declared.map_range.Kind.TheVariants.{Ram, Device, Shared}
+use Rattle.described.specs.declared.map_range.MapRange.{MapRange}
 use Rattle.domain_plan.specs.declared.planned.GuestPlan.{GuestPlan}
 
 -- a line ends with a line feed

@@ -1,14 +1,15 @@
 // The lines of a guest.
 ghost use Rattle.std.specs.Prelude.{◌≡◌, ◌++◌, All, OnOk, flat_map};
-ghost use Rattle.dl_base.specs.Maps.{AreMapRanges};
+ghost use Rattle.described.specs.Maps.{AreMapRanges};
 ghost use Rattle.build_report.specs.Lines.{port_line, ram_pages, run_line, spi_line};
 ghost use Rattle.build_report.specs.PrivateAddresses.{HasAddresses};
 ghost use Rattle.build_report.specs.Report.{guest_lines};
 
 use crate::lines::{append_head, append_port, append_run, append_spi, pages_in};
-use dl_base::{Bytes, MapRange};
+use described::MapRange;
 use domain_plan::GuestPlan;
 use std::alloc::{AllocError, Global};
+use texts::Bytes;
 
 /// Adds the lines of a guest whose image has so many tables: its number, path, vCPUs, pages of memory and tables; then a
 /// line for each run of its map, each interrupt and each port. Addresses are in bytes and hexadecimal, all counts in

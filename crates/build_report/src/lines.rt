@@ -3,9 +3,10 @@ ghost use Rattle.std.specs.Prelude.{◌≡◌, ◌++◌, ◌<◌, ◌^◌, OnOk,
 ghost use Rattle.build_report.specs.Lines.{kind_text, address_text, places_text, run_line, spi_line, peer_text, port_line, name_text, counts_text, head_line, free_line, counted, generated_line, ram_in, ram_pages};
 ghost use Rattle.build_report.specs.PrivateAddresses.{HasAddresses};
 
-use dl_base::{Bytes, Kind, MapRange};
+use described::{Kind, MapRange};
 use domain_plan::GuestPlan;
 use std::alloc::{AllocError, Global};
+use texts::Bytes;
 
 /// The number that stands for dom0 among peers.
 const DOM0: u64 = 0xffff_ffff;

@@ -1,10 +1,10 @@
 -- Which statuses the steps never refuse with: reading what a script or a ready tree begins with, and partial trees, refuses with the statuses of reading files alone; a configuration with that of an item too.
 use Rattle.std.proofs.Common.{◌≡◌, ℕ, List, map}
 use Rattle.std.specs.Prelude.{Option, Some, None, Result, Ok, Err}
-use Rattle.dl_base.specs.Outside.{File}
-use Rattle.dl_base.specs.declared.loaded.Loaded.{Loaded}
-use Rattle.dl_base.specs.declared.status.Status.{Status}
-use Rattle.dl_base.specs.declared.status.Status.TheVariants as statuses
+use Rattle.outside.specs.Outside.{File}
+use Rattle.described.specs.declared.loaded.Loaded.{Loaded}
+use Rattle.outside.specs.declared.status.Status.{Status}
+use Rattle.outside.specs.declared.status.Status.TheVariants as statuses
 use Rattle.fdt_tree.specs.Tree.{Tree}
 use Rattle.ib_config.specs.Settings.{config_of}
 use Rattle.ib_config.specs.declared.settings.Settings.{Settings}

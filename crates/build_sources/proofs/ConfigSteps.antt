@@ -3,7 +3,7 @@ use Rattle.std.proofs.Common.{◌≡◌, ◌∙◌, ◌+◌, ◌-◌, sym, ap, s
 use Rattle.std.specs.Prelude.{Option, Some, Ok}
 use Rattle.std.proofs.Math.Seq.{take-append_seam}
 use Rattle.std.proofs.lemmas.List.{length-append, length-map}
-use Rattle.dl_base.specs.Outside.{File}
+use Rattle.outside.specs.Outside.{File}
 use Rattle.ib_config.specs.Settings.{config_of}
 use Rattle.ib_config.specs.declared.settings.Settings.{Settings}
 use Rattle.ib_placement.specs.Placement.{files_of, places_of}

@@ -2,7 +2,7 @@
 use Rattle.std.proofs.Common.{◌≡◌, ◌∙◌, refl, sym, ap, subst, List, length, Some, None, Ok, Err}
 use Rattle.std.specs.Prelude.{Option, Result, MatchOption, true}
 use Rattle.std.proofs.lemmas.List.{length-map}
-use Rattle.dl_base.specs.Outside.{File}
+use Rattle.outside.specs.Outside.{File}
 use Rattle.fdt_tree.specs.Tree.{Tree}
 use Rattle.ib_placement.specs.declared.places.FilePlace.{FilePlace}
 use Rattle.ib_script.specs.declared.make.LoadKind.{LoadKind}

@@ -1,8 +1,8 @@
 -- Over files that tell what they hold, reading what a build stands on and the guests' partial trees calls for one outcome, where what follows does.
 use Rattle.std.proofs.Common.{ℕ, List, [], ◌∷◌, ◌++◌, map, Some, None}
 use Rattle.std.specs.Prelude.{Option}
-use Rattle.dl_base.specs.Outside.{File}
-use Rattle.dl_base.specs.declared.loaded.Loaded.{Loaded}
+use Rattle.outside.specs.Outside.{File}
+use Rattle.described.specs.declared.loaded.Loaded.{Loaded}
 use Rattle.fdt_tree.specs.Tree.{Tree}
 use Rattle.ib_config.specs.Settings.{config_of}
 use Rattle.ib_config.specs.declared.settings.Settings.{Settings}

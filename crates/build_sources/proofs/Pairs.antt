@@ -3,7 +3,7 @@ use Rattle.std.proofs.Common.{◌≡◌, refl, sym, ap, subst, ℕ, List, [], �
 use Rattle.std.specs.Prelude.{Option, IsTrue, not, cond}
 use Rattle.std.specs.List.{list_all}
 use Rattle.std.proofs.lemmas.List.Sums.{take_while-cons}
-use Rattle.dl_base.specs.Outside.{File}
+use Rattle.outside.specs.Outside.{File}
 use Rattle.fdt_read.specs.Reservations.{pairs, reservations_block, before_last, is_last_pair}
 use Rattle.fdt_tree.specs.declared.reserve.Reserve.{Reserve}
 use Rattle.ib_script.specs.declared.make.LoadKind.{LoadKind}

@@ -3,8 +3,8 @@ use Rattle.std.proofs.Common.{◌≡◌, ◌∙◌, ◌+◌, ◌<◌, ◌≤◌,
 use Rattle.std.specs.Prelude.{Option}
 use Rattle.std.proofs.lemmas.Grind.{common_steps}
 use Rattle.std.proofs.lemmas.List.{take_more, take-append-drop, take-map, drop_more}
-use Rattle.dl_base.specs.Outside.{File}
-use Rattle.dl_base.specs.declared.loaded.Loaded.{Loaded}
+use Rattle.outside.specs.Outside.{File}
+use Rattle.described.specs.declared.loaded.Loaded.{Loaded}
 use Rattle.fdt_tree.specs.Tree.{Tree}
 use Rattle.fdt_tree.specs.Document.{Document}
 use Rattle.fdt_nodes.specs.Held.{node_of}

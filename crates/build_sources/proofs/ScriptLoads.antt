@@ -2,7 +2,7 @@
 use Rattle.std.proofs.Common.{◌≡◌, ◌∙◌, ◌+◌, suc, refl, sym, ap, arith, ℕ, Bool, true, false, List, [], ◌∷◌, ◌++◌, length, map, drop, Ok, Err}
 use Rattle.std.specs.Prelude.{Option, Some, None, Result, cond, codes, is_some}
 use Rattle.std.specs.List.{flat_map, enumerate_from}
-use Rattle.dl_base.specs.declared.ranges.BaseSize.{BaseSize}
+use Rattle.texts.specs.declared.ranges.BaseSize.{BaseSize}
 use Rattle.ib_config.specs.declared.groups.PortGroup.{PortGroup}
 use Rattle.ib_config.specs.declared.groups.ShmGroup.{ShmGroup}
 use Rattle.ib_config.specs.declared.guests.Guest.{Guest}

@@ -1,8 +1,8 @@
 -- Reading what a build stands on, and the guests' partial trees, are steps.
 use Rattle.std.proofs.Common.{◌≡◌, ℕ, List}
 use Rattle.std.specs.Prelude.{Option, Some, None, Ok}
-use Rattle.dl_base.specs.Outside.{File}
-use Rattle.dl_base.specs.declared.loaded.Loaded.{Loaded}
+use Rattle.outside.specs.Outside.{File}
+use Rattle.described.specs.declared.loaded.Loaded.{Loaded}
 use Rattle.fdt_tree.specs.Tree.{Tree}
 use Rattle.ib_script.specs.declared.command.Command.{Command}
 use Rattle.ib_script.specs.declared.make.LoadKind.{LoadKind}

@@ -1,9 +1,9 @@
 -- A configuration is read, and made into a boot script; what follows is left open.
 use Rattle.std.specs.Prelude.{◌≡◌, ℕ, List, [], ◌∷◌, ◌++◌, codes, map, is_some, decimal, Option, Ok}
 use Rattle.std.specs.List.{flat_map}
-use Rattle.dl_base.specs.NumberTexts.{hexadecimal}
-use Rattle.dl_base.specs.Outside.{File}
-use Rattle.dl_base.specs.declared.status.Status.TheVariants as statuses
+use Rattle.texts.specs.NumberTexts.{hexadecimal}
+use Rattle.outside.specs.Outside.{File}
+use Rattle.outside.specs.declared.status.Status.TheVariants as statuses
 use Rattle.fdt_tree.specs.Tree.{Tree, find_place}
 use Rattle.fdt_tree.specs.Phandles.{highest_phandle}
 use Rattle.ib_config.specs.FaultTexts.{fault_text}

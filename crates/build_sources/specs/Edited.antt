@@ -1,6 +1,6 @@
 -- Of a configuration, the tree that a build stands on is the edited tree, and what the printed script makes of the host's tree.
 use Rattle.std.specs.Prelude.{◌≡◌, ⊤, List, [], ◌∷◌, Option, Some, Ok}
-use Rattle.dl_base.specs.Outside.{File}
+use Rattle.outside.specs.Outside.{File}
 use Rattle.ib_script.specs.Text.{text_of}
 use Rattle.ib_script.specs.declared.make.LoadKind.{LoadKind}
 use Rattle.script_run.specs.Edited.{edited_of}

@@ -1,7 +1,7 @@
 -- The guests' partial trees are read, guest by guest.
 use Rattle.std.specs.Prelude.{ℕ, ◌==◌, List, take, reverse, find, map, Option, Some, None}
-use Rattle.dl_base.specs.Outside.{File}
-use Rattle.dl_base.specs.declared.loaded.Loaded.{Loaded}
+use Rattle.outside.specs.Outside.{File}
+use Rattle.described.specs.declared.loaded.Loaded.{Loaded}
 use Rattle.fdt_tree.specs.Tree.{Tree}
 use Rattle.domain_bindings.specs.Domains.{guest_nodes, partial_of}
 use Rattle.tree_plan.specs.Descriptions.{Description}

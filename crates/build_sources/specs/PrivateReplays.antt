@@ -1,6 +1,6 @@
 -- Only private contracts and proofs use this file: the steps that are left of a configuration whose script was made, and of a replay.
 use Rattle.std.specs.Prelude.{List, Option, ℕ}
-use Rattle.dl_base.specs.Outside.{File}
+use Rattle.outside.specs.Outside.{File}
 use Rattle.ib_script.specs.declared.command.Command.{Command}
 use Rattle.dom0less_words.specs.Words.{Word}
 use Rattle.run_steps.specs.Endings.{Outcome}

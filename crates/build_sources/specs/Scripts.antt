@@ -1,7 +1,7 @@
 -- What is written of a configuration's boot script.
 use Rattle.std.specs.Prelude.{ℕ, List, codes, ◌++◌, Option}
 use Rattle.std.specs.List.{flat_map}
-use Rattle.dl_base.specs.Outside.{File}
+use Rattle.outside.specs.Outside.{File}
 use Rattle.ib_script.specs.Text.{text_of}
 use Rattle.run_steps.specs.Names.{joined}
 use Rattle.build_sources.specs.Configs.{Made}

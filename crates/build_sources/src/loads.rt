@@ -8,11 +8,12 @@ ghost use Rattle.run_steps.specs.Stops.{IsDue, Grew};
 ghost use Rattle.build_sources.specs.Handed.{HandsOn};
 ghost use Rattle.build_sources.specs.Sources.{load_named, known_size, AfterKnownSize, AfterLoadSize, AfterLoadSizes};
 
-use dl_base::{Files, List};
 use ib_script::Command;
+use outside::Files;
 use run_steps::{Stop, join, measure};
 use script_run::tree_load;
 use std::alloc::{AllocError, Global};
+use texts::List;
 
 /// The sizes of the files of all loads of a script in their order, in bytes, where the tree's file has so many bytes: that
 /// file is not measured.

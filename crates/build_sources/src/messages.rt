@@ -1,16 +1,16 @@
 // What is said of configurations and scripts.
 ghost use Rattle.std.specs.Prelude.{◌≡◌, ◌++◌, IfOk, OnOk, codes, decimal};
-ghost use Rattle.dl_base.specs.NumberTexts.{hexadecimal};
+ghost use Rattle.texts.specs.NumberTexts.{hexadecimal};
 ghost use Rattle.ib_config.specs.FaultTexts.{fault_text};
 ghost use Rattle.run_steps.specs.Messages.{file_message};
 ghost use Rattle.script_run.specs.FaultTexts.{at_number, step_name, line_name, step_text, line_text};
 ghost use Rattle.build_sources.specs.Scripts.{unused_lines};
 
-use dl_base::{Bytes, Text};
 use ib_config::ConfigFault;
 use run_steps::make_file_message;
 use script_run::{LineWhy, ScriptFault, StepFault, StepWhy};
 use std::alloc::{AllocError, Global};
+use texts::{Bytes, Text};
 
 /// What is said about a file that is no configuration.
 pub(crate) fn make_config_message(

@@ -9,9 +9,10 @@ ghost use Rattle.build_sources.specs.Meant.{meant_stand};
 ghost use Rattle.build_sources.specs.Partials.{AfterLoaded, AfterPartial, AfterPartials, Describes, load_at, partial_addresses};
 
 use crate::stand::Stand;
-use dl_base::{Files, Loaded};
+use described::Loaded;
 use domain_bindings::{Domain, read_domains};
 use fdt_tree::Tree;
+use outside::Files;
 use run_steps::{Stop, join, read_tree};
 use std::alloc::{AllocError, Global};
 

@@ -13,10 +13,11 @@ ghost use Rattle.build_sources.specs.Sources.{AfterReplay};
 use crate::loads::measure_loads;
 use crate::script::{read_script, run_script};
 use crate::stand::Stand;
-use dl_base::{Bytes, Files, List};
 use ib_script::Command;
+use outside::Files;
 use run_steps::{Stop, TreeFile, read_tree};
 use std::alloc::Global;
+use texts::{Bytes, List};
 
 /// What a build stands on that begins with a script and the tree that it is run on; its files are in a folder where one is
 /// given.

@@ -8,12 +8,14 @@ ghost use Rattle.build_sources.specs.Handed.{HandsOn};
 ghost use Rattle.build_sources.specs.Sources.{IsLineRefusal, AfterScriptFile, AfterRun};
 
 use crate::messages::{make_line_message, make_step_message};
-use dl_base::{Files, List, Loaded, Status};
+use described::Loaded;
 use fdt_tree::Tree;
 use ib_script::Command;
+use outside::{Files, Status};
 use run_steps::{Stop, read_file};
 use script_run::{Machine, ScriptFault, StepFault, parse, run};
 use std::alloc::Global;
+use texts::List;
 
 // The longest script that is read, in bytes.
 const SCRIPT_LIMIT: u64 = 262_144;

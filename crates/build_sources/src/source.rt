@@ -15,11 +15,12 @@ use crate::configuration::{Made, make_script};
 use crate::replay::replay;
 use crate::script::run_script;
 use crate::stand::Stand;
-use dl_base::{Bytes, Files, List};
 use dom0less_words::Source;
 use ib_script::LoadKind;
+use outside::Files;
 use run_steps::{Stop, read_tree};
 use std::alloc::Global;
+use texts::{Bytes, List};
 
 /// The folder of the files that a configuration or a script names, where one is given.
 pub fn folder_of<'a>(source: &Source<'a>) -> Option<&'a str>

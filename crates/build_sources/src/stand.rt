@@ -1,7 +1,8 @@
 // What a build stands on.
-use dl_base::{Bytes, List, Loaded};
+use described::Loaded;
 use fdt_tree::{Reserve, Tree};
 use run_steps::Output;
+use texts::{Bytes, List};
 
 /// What a build stands on.
 #[derive(Drop)]

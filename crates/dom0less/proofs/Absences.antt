@@ -1,12 +1,12 @@
 -- Where the words and the files call for `Read`, a file is not there: each step refuses with `Read` only so, where what follows does.
 use Rattle.std.proofs.Common.{◌≡◌, ◌∙◌, refl, sym, subst, arith, ℕ, Bool, List, [], ◌∷◌, ◌++◌, map, codes, Some, None, inl, inr}
 use Rattle.std.specs.Prelude.{⊤, Option, Result, Ok, Err}
-use Rattle.dl_base.specs.Outside.{File, Rose}
-use Rattle.dl_base.specs.declared.files.FileError.{FileError}
-use Rattle.dl_base.specs.declared.files.FileError.TheVariants as read_errors
-use Rattle.dl_base.specs.declared.loaded.Loaded.{Loaded}
-use Rattle.dl_base.specs.declared.status.Status.{Status}
-use Rattle.dl_base.specs.declared.status.Status.TheVariants as statuses
+use Rattle.outside.specs.Outside.{File, Rose}
+use Rattle.outside.specs.declared.files.FileError.{FileError}
+use Rattle.outside.specs.declared.files.FileError.TheVariants as read_errors
+use Rattle.described.specs.declared.loaded.Loaded.{Loaded}
+use Rattle.outside.specs.declared.status.Status.{Status}
+use Rattle.outside.specs.declared.status.Status.TheVariants as statuses
 use Rattle.fdt_tree.specs.Tree.{Tree}
 use Rattle.stage2_walk.specs.Files.{image_of}
 use Rattle.domain_plan.specs.declared.planned.GuestPlan.{GuestPlan}

@@ -1,7 +1,7 @@
 -- An audit of what its files describe, step by step.
 use Rattle.std.proofs.Common.{◌≡◌, refl, sym, ap, subst, ℕ, List, [], length}
 use Rattle.std.specs.Prelude.{Option, Result, Ok, Err, IfOk, IfErr}
-use Rattle.dl_base.specs.Outside.{File}
+use Rattle.outside.specs.Outside.{File}
 use Rattle.domain_plan.specs.Refusals.{Refusal}
 use Rattle.domain_plan.specs.declared.planned.PlanFault.{PlanFault}
 use Rattle.domain_plan.specs.declared.planned.PlanFault.TheVariants as plan_faults

@@ -1,7 +1,7 @@
 -- The words and files that tell what they hold call for one outcome.
 use Rattle.std.proofs.Common.{List, Some, None}
 use Rattle.std.specs.Prelude.{Option}
-use Rattle.dl_base.specs.Outside.{File}
+use Rattle.outside.specs.Outside.{File}
 use Rattle.run_steps.specs.Laws.{IsDetermined}
 use Rattle.run_steps.proofs.OneOutcome.{on_result_decides, refusals_agree, writings_agree, never_agrees, tree_file_decides}
 use Rattle.tree_plan.specs.Descriptions.{Description}

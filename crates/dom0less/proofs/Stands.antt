@@ -1,7 +1,7 @@
 -- A build of what its files describe, step by step.
 use Rattle.std.proofs.Common.{◌≡◌, sym, ap, subst, ℕ, List, ◌++◌}
 use Rattle.std.specs.Prelude.{Option, Result, Ok, Err, IfOk, IfErr}
-use Rattle.dl_base.specs.Outside.{File}
+use Rattle.outside.specs.Outside.{File}
 use Rattle.run_steps.specs.Endings.{Outcome, Builds}
 use Rattle.run_steps.specs.Outputs.{files_of, report_of}
 use Rattle.run_steps.specs.PrivateOutcomes.{outcome_of}

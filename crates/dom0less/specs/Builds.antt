@@ -1,6 +1,6 @@
 -- What a build calls for, step by step: the files are read, and then what they describe is planned and written.
 use Rattle.std.specs.Prelude.{List, ◌++◌, Option}
-use Rattle.dl_base.specs.Outside.{File}
+use Rattle.outside.specs.Outside.{File}
 use Rattle.run_steps.specs.Endings.{Outcome}
 use Rattle.run_steps.specs.Steps.{IsWriting}
 use Rattle.tree_plan.specs.Descriptions.{Description}

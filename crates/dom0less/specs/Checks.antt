@@ -1,6 +1,6 @@
 -- What an audit calls for, step by step: the files are read, what they describe is planned, and the images of its guests are audited.
 use Rattle.std.specs.Prelude.{List, [], length, Option}
-use Rattle.dl_base.specs.Outside.{File}
+use Rattle.outside.specs.Outside.{File}
 use Rattle.run_steps.specs.Endings.{Outcome}
 use Rattle.run_steps.specs.Steps.{IsWriting, OnResult}
 use Rattle.tree_plan.specs.Descriptions.{Description}

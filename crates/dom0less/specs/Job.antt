@@ -1,6 +1,6 @@
 -- What a run is called to do by its words and by the files.
 use Rattle.std.specs.Prelude.{ℕ, List, [], ◌∷◌, Option, Some, None}
-use Rattle.dl_base.specs.Outside.{File}
+use Rattle.outside.specs.Outside.{File}
 use Rattle.fdt_listing.specs.Listing.{listing}
 use Rattle.run_steps.specs.Endings.{Outcome}
 use Rattle.run_steps.specs.Steps.{IsWriting}

@@ -1,6 +1,6 @@
 -- What a private contract promises beyond the job.
 use Rattle.std.specs.Prelude.{◌≡◌, ℕ, List, [], Option}
-use Rattle.dl_base.specs.Outside.{File}
+use Rattle.outside.specs.Outside.{File}
 use Rattle.dom0less_words.specs.Words.{Asked, Build, Check}
 use Rattle.dom0less.specs.Headline.{IsDescribedBuild, IsDescribedAudit}
 

@@ -14,11 +14,12 @@ ghost use Rattle.dom0less.specs.Headline.{IsDescribedBuild, IsStandBuild};
 
 use build_outputs::{Built, build_described};
 use build_sources::{Stand, folder_of, read_partials, read_source};
-use dl_base::{Bytes, Files, List};
 use dom0less_words::Source;
 use fdt_tree::Tree;
+use outside::Files;
 use run_steps::{Build, Output, Stop};
 use std::alloc::{AllocError, Global};
+use texts::{Bytes, List};
 
 /// What is written for the guests that are described where a build begins; the outputs are in a folder, where one is given.
 pub(crate) fn prepare_build<F: Files>(

@@ -13,12 +13,13 @@ ghost use Rattle.dom0less.specs.Headline.{IsDescribedAudit, IsPlanAudited};
 
 use build_outputs::plan_stop;
 use build_sources::{Stand, folder_of, read_partials, read_source};
-use dl_base::{Files, List};
 use dom0less_words::Source;
 use fdt_tree::Tree;
 use image_audit::{audit_images, make_checked_line};
+use outside::Files;
 use run_steps::{Build, Stop};
 use std::alloc::{AllocError, Global};
+use texts::List;
 use tree_plan::plan_tree;
 
 /// What is put where nothing is found in the images of the guests that are described where a build begins; the images are in

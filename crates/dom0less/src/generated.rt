@@ -7,9 +7,9 @@ ghost use Rattle.dom0less.specs.Generated.{IsGeneratedJob, totals_line};
 
 use build_outputs::{Totals, build_described};
 use build_report::append_generated;
-use dl_base::{Bytes, List};
 use run_steps::{Build, Stop};
 use std::alloc::{AllocError, Global};
+use texts::{Bytes, List};
 use tree_generator::generated_tree;
 
 /// What is put for the tree that is generated for a number up to 1,000,000: the line of its totals. Nothing is written.

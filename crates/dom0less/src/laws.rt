@@ -8,7 +8,7 @@ ghost use Rattle.dom0less.specs.Laws.{IsOneOutcome, IsReadOfAbsent};
 ghost use Rattle.dom0less.specs.Lines.{line};
 
 use crate::top::run;
-use dl_base::{Outs, Sink, Status, SureFiles};
+use outside::{Outs, Sink, Status, SureFiles};
 use std::alloc::Global;
 
 /// The words and the files call for one outcome: a refusal excludes a build, and two refusals have one status and one line.

@@ -2,7 +2,7 @@
 ghost use Rattle.std.specs.Prelude.{◌≡◌, string_bytes};
 ghost use Rattle.run_steps.specs.Endings.{Said};
 
-use dl_base::Sink;
+use outside::Sink;
 
 /// Puts a text that is said as it is, as that of a command line that is not taken. A failure changes nothing but what the
 /// stream took.

@@ -6,10 +6,11 @@ ghost use Rattle.run_steps.specs.Stops.{IsDue};
 ghost use Rattle.run_steps.specs.Trees.{AfterTreeFile, flat_tree};
 ghost use Rattle.dom0less.specs.Job.{IsTreeListing};
 
-use dl_base::{Bytes, Files, List};
 use fdt_listing::list;
+use outside::Files;
 use run_steps::{Build, Stop, TreeFile, read_tree};
 use std::alloc::{AllocError, Global};
+use texts::{Bytes, List};
 
 /// What is put for the tree of this file, where it is to be listed.
 pub(crate) fn prepare_listing<F: Files>(

@@ -12,8 +12,8 @@ use crate::check::prepare_check;
 use crate::generated::prepare_generated;
 use crate::listing::prepare_listing;
 use crate::script::prepare_script;
-use dl_base::Files;
 use dom0less_words::Asked;
+use outside::Files;
 use run_steps::{Build, Stop};
 use std::alloc::Global;
 

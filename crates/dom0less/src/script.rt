@@ -8,10 +8,11 @@ ghost use Rattle.build_sources.specs.Meant.{meant_made};
 ghost use Rattle.dom0less.specs.Job.{IsScriptJob, IsScriptWriting};
 
 use build_sources::{Made, make_script};
-use dl_base::{Files, List};
 use dom0less_words::ScriptAsked;
+use outside::Files;
 use run_steps::{Build, Stop};
 use std::alloc::{AllocError, Global};
+use texts::List;
 
 /// What is written for a configuration whose boot script alone is asked for.
 pub(crate) fn prepare_script<F: Files>(

@@ -1,6 +1,6 @@
 // The top call.
 ghost use Rattle.std.specs.Prelude.{◌≡◌, ◌≢◌, ◌⊎◌, ◌∷◌, [], IsNone, IfSome, Some, map, string_bytes, codes, true};
-ghost use Rattle.dl_base.specs.Outside.{Rose, and_bytes, TookPrefix};
+ghost use Rattle.outside.specs.Outside.{Rose, and_bytes, TookPrefix};
 ghost use Rattle.run_steps.specs.Messages.{memory_message, file_message};
 ghost use Rattle.run_steps.specs.Endings.{Refuses, Builds, Said, and_files, TookUpTo, HasRoom};
 ghost use Rattle.run_steps.specs.Laws.{AnswersUnless};
@@ -15,8 +15,8 @@ ghost use Rattle.dom0less.specs.Headline.{IsDescribedAudit, IsDescribedBuild, Is
 
 use crate::lines::say_text;
 use crate::prepare::prepare;
-use dl_base::{Files, Outs, Sink, Status};
 use dom0less_words::{WordsFault, read_words};
+use outside::{Files, Outs, Sink, Status};
 use run_steps::{Stop, say, write_all};
 use std::alloc::Global;
 

@@ -5,11 +5,12 @@
 
 ghost use Rattle.std.specs.Prelude.{◌<◌, ◌≤◌};
 
-use dl_base::{FrameRange, Kind, List, MapRange};
+use described::{Kind, MapRange};
 use frame_alloc::FramePool;
 use stage2_tables::build_tables;
 use std::alloc::{AllocError, Global};
 use std::io;
+use texts::{FrameRange, List};
 
 // All frames of 64 GiB of host memory.
 const FRAMES: u64 = 1 << 24;

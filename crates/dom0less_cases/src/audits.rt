@@ -10,9 +10,10 @@
 //     copy NAME OTHER              it has the bytes of the output of this other name
 use crate::case::{Case, OUTPUTS};
 use crate::shown::show;
-use dl_base::{Files, MemFiles, MemOuts, Status, read_number};
+use outside::{Files, MemFiles, MemOuts, Status};
 use std::alloc::{AllocError, Global};
 use std::io;
+use texts::read_number;
 
 // The longest image that is changed, in bytes.
 const LONGEST: u64 = 2_000_000;

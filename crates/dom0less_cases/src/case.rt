@@ -1,5 +1,5 @@
 // A run and what it meets outside.
-use dl_base::{MemFiles, MemOuts, MemSink, Status};
+use outside::{MemFiles, MemOuts, MemSink, Status};
 use std::alloc::{AllocError, Global};
 
 /// How many outputs a run has at most: a script, the host's tree, and two files of each of sixteen guests.

@@ -11,10 +11,10 @@ ghost use Rattle.std.specs.Prelude.{◌<◌, ◌^◌};
 
 use crate::case::Case;
 use crate::shown::show_lines;
-use dl_base::read_number;
 use stage2_walk::{Image, Step, read_image};
 use std::alloc::{AllocError, Global};
 use std::io;
+use texts::read_number;
 
 /// Shows what a line asks for, where it names this output.
 pub(crate) fn show_content(

@@ -1,7 +1,7 @@
 // A case that is run over the first lines of a file, one more each time.
 use crate::case::Case;
 use crate::shown::show_said;
-use dl_base::Files;
+use outside::Files;
 use std::alloc::Global;
 use std::io;
 

@@ -15,9 +15,9 @@
 // the words by which `content` shows more of an output than its length, and behind `audit` those by which `audits`
 // changes an output before it is read again.
 use crate::case::Case;
-use dl_base::read_number;
 use std::alloc::{AllocError, Global};
 use std::{fs, io};
+use texts::read_number;
 
 /// A file that is being put together.
 #[derive(Drop)]

@@ -1,7 +1,7 @@
 // What a run answered, said and wrote.
 use crate::case::{Case, OUTPUTS};
 use crate::content::show_content;
-use dl_base::Status;
+use outside::Status;
 use std::io;
 
 /// Shows the name of a case, the status, what was said, the report, and the outputs with what is to be shown of them.

@@ -3,7 +3,7 @@ ghost use Rattle.std.specs.Prelude.{◌≡◌, ◌∷◌, IfOk, map, codes, stri
 ghost use Rattle.run_steps.specs.Endings.{Refuses, Builds};
 ghost use Rattle.dom0less.specs.Job.{CallsFor};
 
-use dl_base::{Files, MemFiles, MemOuts, MemSink, Status};
+use outside::{Files, MemFiles, MemOuts, MemSink, Status};
 use std::alloc::{AllocError, Global};
 use std::{fs, io};
 

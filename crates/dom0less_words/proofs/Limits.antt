@@ -2,8 +2,8 @@
 use Rattle.std.proofs.Common.{◌≡◌, refl, arith, ℕ, ◌≤◌, Bool, true, false, Some, None, Ok, Err}
 use Rattle.std.specs.Prelude.{Option, Result, nat_le, if◌then◌else◌, is_none, ◌&&◌, option_and_then}
 use Rattle.std.proofs.lemmas.Bool.Decides.{nat_tests}
-use Rattle.dl_base.specs.NumberTexts.{number_of}
-use Rattle.dl_base.specs.declared.number.NumberFault.{NumberFault}
+use Rattle.texts.specs.NumberTexts.{number_of}
+use Rattle.texts.specs.declared.number.NumberFault.{NumberFault}
 use Rattle.ib_script.specs.declared.make.LoadKind.{LoadKind}
 use Rattle.dom0less_words.specs.Words.{Word, Asked, Options, Script, Show, Generate, Source, Config, Replay, Ready}
 use Rattle.dom0less_words.specs.Usage.{Mode, OfConfig, OfReplay, OfReady, OfShow, OfGenerate, asked_of, built_or_checked, has_no_script_options, load_kind_of, mode_of, of_config, of_mode, stands_alone, within}

@@ -1,7 +1,7 @@
 -- The rules of usage: which options may stand together, and what they ask for.
 use Rattle.std.specs.Prelude.{ℕ, ◌&&◌, Bool, not, if◌then◌else◌, nat_le, bytes_eq, codes, Option, Some, None, is_none, Result, Ok, Err, option_and_then}
-use Rattle.dl_base.specs.NumberTexts.{number_of}
-use Rattle.dl_base.specs.declared.number.NumberFault.{NumberFault}
+use Rattle.texts.specs.NumberTexts.{number_of}
+use Rattle.texts.specs.declared.number.NumberFault.{NumberFault}
 use Rattle.ib_script.specs.declared.make.LoadKind.{LoadKind}
 use Rattle.ib_script.specs.declared.make.LoadKind.TheVariants.{Tftp, Sd, Scsi, Usb}
 use Rattle.dom0less_words.specs.Words.{Word, Source, Config, Replay, Ready, Asked, Build, Check, Script, Show, Generate, Options}

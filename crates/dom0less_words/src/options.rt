@@ -6,8 +6,8 @@ ghost use Rattle.dom0less_words.specs.Meant.{meant, meant_source};
 ghost use Rattle.dom0less_words.specs.PrivateKeptOptions.{meant_options};
 
 use crate::asked::{Asked, ScriptAsked, Source};
-use dl_base::read_number;
 use ib_script::LoadKind;
+use texts::read_number;
 
 /// The value of each option, and whether each flag was given.
 #[derive(Clone, Copy)]

@@ -6,15 +6,15 @@ use Rattle.std.proofs.lemmas.List.Elements.{All-nil, All-cons, All-head, All-tai
 use Rattle.std.proofs.lemmas.List.Sums.{sum_by-append, sum_by-cons}
 use Rattle.std.proofs.lemmas.List.{append-nil}
 use Rattle.std.proofs.lemmas.Grind.{flat_map-append}
-use Rattle.dl_base.specs.declared.item.Described.{Described}
-use Rattle.dl_base.specs.declared.item.Item.{Item}
-use Rattle.dl_base.specs.declared.item.Part.TheVariants as parts
-use Rattle.dl_base.specs.declared.item.What.{What}
-use Rattle.dl_base.specs.declared.item.What.TheVariants as whats
-use Rattle.dl_base.specs.declared.ranges.BaseSize.{BaseSize}
-use Rattle.dl_base.specs.declared.why.Why.{Why}
-use Rattle.dl_base.specs.Reasons.{described}
-use Rattle.dl_base.specs.Sound.{IsSound, SoundUnless, AreSound}
+use Rattle.described.specs.declared.item.Described.{Described}
+use Rattle.described.specs.declared.item.Item.{Item}
+use Rattle.described.specs.declared.item.Part.TheVariants as parts
+use Rattle.described.specs.declared.item.What.{What}
+use Rattle.described.specs.declared.item.What.TheVariants as whats
+use Rattle.texts.specs.declared.ranges.BaseSize.{BaseSize}
+use Rattle.described.specs.declared.why.Why.{Why}
+use Rattle.described.specs.Reasons.{described}
+use Rattle.described.specs.Sound.{IsSound, SoundUnless, AreSound}
 use Rattle.fdt_tree.specs.Tree.{Tree}
 use Rattle.fdt_tree.specs.Document.{Document}
 use Rattle.fdt_tree.specs.declared.reserve.Reserve.{Reserve}

@@ -1,8 +1,8 @@
 -- What holds of each kind of item holds of all items.
 use Rattle.std.proofs.Common.{◌≡◌, ap, refl, ℕ, ◌+◌, List, [], ◌∷◌, ◌++◌, All, Bool, true, false, map}
 use Rattle.std.proofs.lemmas.List.Elements.{All-append, All-nil, All-cons}
-use Rattle.dl_base.specs.declared.item.Described.{Described}
-use Rattle.dl_base.specs.declared.ranges.BaseSize.{BaseSize}
+use Rattle.described.specs.declared.item.Described.{Described}
+use Rattle.texts.specs.declared.ranges.BaseSize.{BaseSize}
 use Rattle.fdt_tree.specs.Tree.{Tree}
 use Rattle.fdt_tree.specs.declared.reserve.Reserve.{Reserve}
 use Rattle.fdt_tree.specs.Document.{Document}

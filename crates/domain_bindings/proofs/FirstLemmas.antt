@@ -4,9 +4,9 @@ use Rattle.std.specs.Prelude.{Option, is_none, is_some, option_map, ◌&&◌}
 use Rattle.std.specs.Option.{option_or}
 use Rattle.std.proofs.lemmas.List.{map-append}
 use Rattle.std.proofs.lemmas.List.Folds.{find-append}
-use Rattle.dl_base.specs.declared.item.Described.{Described}
-use Rattle.dl_base.specs.declared.item.ModuleKind.{ModuleKind}
-use Rattle.dl_base.specs.declared.item.ModuleKind.TheVariants.{Kernel, Ramdisk, DeviceTree, Other}
+use Rattle.described.specs.declared.item.Described.{Described}
+use Rattle.described.specs.declared.item.ModuleKind.{ModuleKind}
+use Rattle.described.specs.declared.item.ModuleKind.TheVariants.{Kernel, Ramdisk, DeviceTree, Other}
 use Rattle.fdt_tree.specs.Document.{Document}
 use Rattle.fdt_nodes.specs.Nodes.{Node}
 use Rattle.fdt_nodes.specs.Held.{node_of}

@@ -1,7 +1,7 @@
 -- What the host's tree tells of its devices is usable.
 use Rattle.std.proofs.Common.{◌≡◌, ℕ, ◌&&◌, Bool, true, false, cond, List, [], ◌∷◌, Option, Some, None, refl, sym, subst}
 use Rattle.std.specs.Prelude.{IfSome, IsTrue, option_and_then}
-use Rattle.dl_base.specs.declared.ranges.BaseSize.{BaseSize}
+use Rattle.texts.specs.declared.ranges.BaseSize.{BaseSize}
 use Rattle.fdt_tree.specs.Tree.{Tree}
 use Rattle.fdt_nodes.specs.Controllers.{gic_of}
 use Rattle.fdt_nodes.specs.Nodes.{Node}

@@ -2,13 +2,13 @@
 use Rattle.std.proofs.Common.{◌≡◌, ◌∙◌, sym, refl, ℕ, suc, ◌+◌, ◌/◌, ◌%◌, ◌^◌, ◌<◌, ◌≤◌, ◌==◌, ◌≢◌, ◌⊎◌, inl, inr, nat_lt, nat_le, Bool, true, false, not, ◌||◌, List, [], ◌∷◌, length, Some, None, arith}
 use Rattle.std.specs.Prelude.{Option, unwrap_or, if◌then◌else◌}
 use Rattle.std.proofs.lemmas.Bool.Decides.{leb_tells, eqb_tells}
-use Rattle.dl_base.specs.declared.item.Item.{Item}
-use Rattle.dl_base.specs.declared.item.What.{What}
-use Rattle.dl_base.specs.declared.ranges.BaseSize.{BaseSize}
-use Rattle.dl_base.specs.declared.why.Why.{Why}
+use Rattle.described.specs.declared.item.Item.{Item}
+use Rattle.described.specs.declared.item.What.{What}
+use Rattle.texts.specs.declared.ranges.BaseSize.{BaseSize}
+use Rattle.described.specs.declared.why.Why.{Why}
 use Rattle.fdt_nodes.specs.Nodes.{Node}
-use Rattle.dl_base.specs.Reasons.{where_so, first_reason, described}
-use Rattle.dl_base.specs.Sound.{AreWholePages}
+use Rattle.described.specs.Reasons.{where_so, first_reason, described}
+use Rattle.described.specs.Sound.{AreWholePages}
 use Rattle.domain_bindings.specs.Reasons.{is_number, is_not_pages, is_too_high}
 use Rattle.domain_bindings.specs.Heads.{head_reasons, head_reason, is_static, is_too_large, memory_of, cpus_of, heap_pages}
 use Rattle.domain_bindings.specs.Statics.{static_reasons, static_reason, list_reasons, list_reason, statics_of, are_too_many, are_too_large, bytes_in}

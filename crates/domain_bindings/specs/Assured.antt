@@ -1,11 +1,11 @@
 -- What holds of every guest that is read, whatever its tree says, so that a plan can rest on it.
 use Rattle.std.specs.Prelude.{◌≡◌, ℕ, ◌^◌, ◌≤◌, ◌&&◌, Bool, true, false, is_some, List, [], ◌∷◌, None, filter, flat_map, sum_by}
 use Rattle.std.specs.List.{list_any, AllZip}
-use Rattle.dl_base.specs.declared.item.Described.{Described}
-use Rattle.dl_base.specs.declared.item.Part.TheVariants as parts
-use Rattle.dl_base.specs.declared.item.What.{What}
-use Rattle.dl_base.specs.declared.item.What.TheVariants as whats
-use Rattle.dl_base.specs.declared.ranges.BaseSize.{BaseSize}
+use Rattle.described.specs.declared.item.Described.{Described}
+use Rattle.described.specs.declared.item.Part.TheVariants as parts
+use Rattle.described.specs.declared.item.What.{What}
+use Rattle.described.specs.declared.item.What.TheVariants as whats
+use Rattle.texts.specs.declared.ranges.BaseSize.{BaseSize}
 use Rattle.domain_bindings.specs.declared.domain.Domain.{Domain}
 
 -- the head that the numbers of a guest say

@@ -1,11 +1,11 @@
 -- The guests that a tree describes: the children of `/chosen` that are domains (Xen, docs/misc/arm/device-tree/booting.txt, dom0less).
 use Rattle.std.specs.Prelude.{ℕ, ◌+◌, Bool, false, List, [], ◌∷◌, ◌++◌, filter, codes, Option, None, option_map, option_and_then}
 use Rattle.std.specs.Option.{option_map_or}
-use Rattle.dl_base.specs.declared.item.Described.{Described}
-use Rattle.dl_base.specs.declared.item.ModuleKind.TheVariants.{Kernel, DeviceTree}
-use Rattle.dl_base.specs.declared.item.What.{What}
-use Rattle.dl_base.specs.declared.item.What.TheVariants as whats
-use Rattle.dl_base.specs.declared.ranges.BaseSize.{BaseSize}
+use Rattle.described.specs.declared.item.Described.{Described}
+use Rattle.described.specs.declared.item.ModuleKind.TheVariants.{Kernel, DeviceTree}
+use Rattle.described.specs.declared.item.What.{What}
+use Rattle.described.specs.declared.item.What.TheVariants as whats
+use Rattle.texts.specs.declared.ranges.BaseSize.{BaseSize}
 use Rattle.fdt_tree.specs.Tree.{Bytes, Tree, property_of}
 use Rattle.fdt_nodes.specs.Nodes.{Node, children, node_found}
 use Rattle.fdt_nodes.specs.Values.{is_compatible}

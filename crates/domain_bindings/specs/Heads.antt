@@ -1,16 +1,16 @@
 -- The node of a guest: how many processors it has, how much memory, and what else it is given (Xen, docs/misc/arm/device-tree/booting.txt).
 use Rattle.std.specs.Prelude.{ℕ, ◌/◌, ◌%◌, ◌==◌, ◌&&◌, ◌||◌, nat_lt, nat_le, not, Bool, if◌then◌else◌, List, [], ◌∷◌, ◌++◌, length, filter, codes, Option, unwrap_or}
 use Rattle.std.specs.Option.{is_none}
-use Rattle.dl_base.specs.declared.item.Part.TheVariants as parts
-use Rattle.dl_base.specs.declared.item.Described.{Described}
-use Rattle.dl_base.specs.declared.item.ModuleKind.TheVariants.{Kernel}
-use Rattle.dl_base.specs.declared.item.What.{What}
-use Rattle.dl_base.specs.declared.item.What.TheVariants as whats
-use Rattle.dl_base.specs.declared.why.Why.{Why}
-use Rattle.dl_base.specs.declared.why.Why.TheVariants as whys
+use Rattle.described.specs.declared.item.Part.TheVariants as parts
+use Rattle.described.specs.declared.item.Described.{Described}
+use Rattle.described.specs.declared.item.ModuleKind.TheVariants.{Kernel}
+use Rattle.described.specs.declared.item.What.{What}
+use Rattle.described.specs.declared.item.What.TheVariants as whats
+use Rattle.described.specs.declared.why.Why.{Why}
+use Rattle.described.specs.declared.why.Why.TheVariants as whys
 use Rattle.fdt_nodes.specs.Nodes.{Node, children}
 use Rattle.fdt_nodes.specs.Values.{has, is_compatible, is_value, u32_in, u64_in, has_other_length}
-use Rattle.dl_base.specs.Reasons.{where_so, first_reason, described}
+use Rattle.described.specs.Reasons.{where_so, first_reason, described}
 use Rattle.fdt_nodes.specs.NodeItems.{item_of}
 use Rattle.domain_bindings.specs.Reasons.{is_number}
 use Rattle.domain_bindings.specs.Modules.{modules_of, first_of_kind}

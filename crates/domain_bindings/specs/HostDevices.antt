@@ -1,6 +1,6 @@
 -- Where the host's interrupt controller and its console stand (Devicetree Specification 0.4, 2.3.6, 3.3 and 3.6). No address is translated.
 use Rattle.std.specs.Prelude.{ℕ, ◌==◌, ◌&&◌, not, Bool, false, IsTrue, IfSome, if◌then◌else◌, List, [], ◌∷◌, take, position, codes, Option, Some, None, unwrap_or, option_map, option_and_then}
-use Rattle.dl_base.specs.declared.ranges.BaseSize.{BaseSize}
+use Rattle.texts.specs.declared.ranges.BaseSize.{BaseSize}
 use Rattle.fdt_tree.specs.Tree.{Bytes, Tree, property_of}
 use Rattle.fdt_nodes.specs.Controllers.{gic_of}
 use Rattle.fdt_nodes.specs.Nodes.{Node, node_found}

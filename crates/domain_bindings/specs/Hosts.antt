@@ -1,19 +1,19 @@
 -- The items of the host: its memory, what is reserved, and the modules of dom0.
 use Rattle.std.specs.Prelude.{ℕ, ◌+◌, ◌^◌, ◌==◌, nat_lt, not, is_some, Bool, List, [], ◌∷◌, ◌++◌, length, map, filter, flat_map, codes, Option, None}
 use Rattle.std.specs.Option.{option_map_or}
-use Rattle.dl_base.specs.declared.item.Part.TheVariants as parts
-use Rattle.dl_base.specs.declared.item.Described.{Described}
-use Rattle.dl_base.specs.declared.item.What.TheVariants as whats
-use Rattle.dl_base.specs.declared.ranges.BaseSize.{BaseSize}
-use Rattle.dl_base.specs.declared.why.Why.{Why}
-use Rattle.dl_base.specs.declared.why.Why.TheVariants as whys
+use Rattle.described.specs.declared.item.Part.TheVariants as parts
+use Rattle.described.specs.declared.item.Described.{Described}
+use Rattle.described.specs.declared.item.What.TheVariants as whats
+use Rattle.texts.specs.declared.ranges.BaseSize.{BaseSize}
+use Rattle.described.specs.declared.why.Why.{Why}
+use Rattle.described.specs.declared.why.Why.TheVariants as whys
 use Rattle.fdt_tree.specs.Tree.{Tree, property_of}
 use Rattle.fdt_tree.specs.Phandles.{first_repeated, phandles_in}
 use Rattle.fdt_tree.specs.declared.reserve.Reserve.{Reserve}
 use Rattle.fdt_nodes.specs.Nodes.{Node, root_of, children, node_found}
 use Rattle.fdt_nodes.specs.Values.{has, is_memory, passes}
 use Rattle.fdt_nodes.specs.Entries.{is_whole, region_cells}
-use Rattle.dl_base.specs.Reasons.{where_so, first_reason, described}
+use Rattle.described.specs.Reasons.{where_so, first_reason, described}
 use Rattle.fdt_nodes.specs.NodeItems.{item_of}
 use Rattle.domain_bindings.specs.Modules.{is_module, has_bad_cells, has_no_reg, host_module_items}
 use Rattle.domain_bindings.specs.Statics.{regions_of, bytes_in}

@@ -1,21 +1,21 @@
 -- Modules that a boot loader has loaded: of dom0, directly below `/chosen`, and of a guest, below its node (Xen, docs/misc/arm/device-tree/booting.txt).
 use Rattle.std.specs.Prelude.{ℕ, ◌*◌, ◌==◌, ◌||◌, Bool, true, false, not, if◌then◌else◌, List, [], ◌∷◌, ◌++◌, length, map, filter, find, codes, Option, Some, None, option_map, option_and_then, unwrap_or}
 use Rattle.std.specs.Option.{is_none, option_map_or}
-use Rattle.dl_base.specs.declared.item.Item.{Item}
-use Rattle.dl_base.specs.declared.item.Part.TheVariants as parts
-use Rattle.dl_base.specs.declared.item.ModuleKind.{ModuleKind}
-use Rattle.dl_base.specs.declared.item.ModuleKind.TheVariants.{Kernel, Ramdisk, DeviceTree, Other}
-use Rattle.dl_base.specs.declared.item.Described.{Described}
-use Rattle.dl_base.specs.declared.item.What.{What}
-use Rattle.dl_base.specs.declared.item.What.TheVariants as whats
-use Rattle.dl_base.specs.declared.ranges.BaseSize.{BaseSize}
-use Rattle.dl_base.specs.declared.why.Why.{Why}
-use Rattle.dl_base.specs.declared.why.Why.TheVariants as whys
+use Rattle.described.specs.declared.item.Item.{Item}
+use Rattle.described.specs.declared.item.Part.TheVariants as parts
+use Rattle.described.specs.declared.item.ModuleKind.{ModuleKind}
+use Rattle.described.specs.declared.item.ModuleKind.TheVariants.{Kernel, Ramdisk, DeviceTree, Other}
+use Rattle.described.specs.declared.item.Described.{Described}
+use Rattle.described.specs.declared.item.What.{What}
+use Rattle.described.specs.declared.item.What.TheVariants as whats
+use Rattle.texts.specs.declared.ranges.BaseSize.{BaseSize}
+use Rattle.described.specs.declared.why.Why.{Why}
+use Rattle.described.specs.declared.why.Why.TheVariants as whys
 use Rattle.fdt_tree.specs.Tree.{Bytes, property_of}
 use Rattle.fdt_nodes.specs.Nodes.{Node, children}
 use Rattle.fdt_nodes.specs.Values.{has, is_compatible}
 use Rattle.fdt_nodes.specs.Entries.{region, region_cells}
-use Rattle.dl_base.specs.Reasons.{where_so, first_reason, described}
+use Rattle.described.specs.Reasons.{where_so, first_reason, described}
 use Rattle.fdt_nodes.specs.NodeItems.{item_of}
 use Rattle.domain_bindings.specs.Reasons.{is_too_high}
 

@@ -1,6 +1,6 @@
 -- Of proofs and private contracts: the first modules of each kind, as they are kept while modules are read.
 use Rattle.std.specs.Prelude.{◌≡◌, ℕ, List, map}
-use Rattle.dl_base.specs.declared.item.ModuleKind.{ModuleKind}
+use Rattle.described.specs.declared.item.ModuleKind.{ModuleKind}
 use Rattle.fdt_tree.specs.Document.{Document}
 use Rattle.fdt_nodes.specs.Nodes.{Node}
 use Rattle.fdt_nodes.specs.Held.{node_of}

@@ -1,6 +1,6 @@
 -- The items of guests from one of them on, for proofs alone.
 use Rattle.std.specs.Prelude.{ℕ, ◌+◌, List, [], ◌∷◌}
-use Rattle.dl_base.specs.declared.item.Described.{Described}
+use Rattle.described.specs.declared.item.Described.{Described}
 use Rattle.fdt_nodes.specs.Nodes.{Node}
 use Rattle.domain_bindings.specs.Domains.{domain_items}
 

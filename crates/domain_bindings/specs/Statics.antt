@@ -1,17 +1,17 @@
 -- The static memory of a guest: a list of host ranges (Xen, docs/misc/arm/device-tree/booting.txt, static memory).
 use Rattle.std.specs.Prelude.{ℕ, ◌+◌, ◌*◌, ◌^◌, ◌==◌, nat_lt, not, Bool, if◌then◌else◌, List, [], ◌∷◌, length, sum_by, codes, Option, option_map, option_and_then}
 use Rattle.std.specs.Option.{is_none, option_map_or}
-use Rattle.dl_base.specs.declared.item.Part.TheVariants as parts
-use Rattle.dl_base.specs.declared.item.Described.{Described}
-use Rattle.dl_base.specs.declared.item.What.TheVariants as whats
-use Rattle.dl_base.specs.declared.ranges.BaseSize.{BaseSize}
-use Rattle.dl_base.specs.declared.why.Why.{Why}
-use Rattle.dl_base.specs.declared.why.Why.TheVariants as whys
+use Rattle.described.specs.declared.item.Part.TheVariants as parts
+use Rattle.described.specs.declared.item.Described.{Described}
+use Rattle.described.specs.declared.item.What.TheVariants as whats
+use Rattle.texts.specs.declared.ranges.BaseSize.{BaseSize}
+use Rattle.described.specs.declared.why.Why.{Why}
+use Rattle.described.specs.declared.why.Why.TheVariants as whys
 use Rattle.fdt_tree.specs.Tree.{Bytes, property_of}
 use Rattle.fdt_tree.specs.Values.{cells_in}
 use Rattle.fdt_nodes.specs.Nodes.{Node}
 use Rattle.fdt_nodes.specs.Entries.{is_whole, region_cells, regions}
-use Rattle.dl_base.specs.Reasons.{where_so, first_reason, described}
+use Rattle.described.specs.Reasons.{where_so, first_reason, described}
 use Rattle.fdt_nodes.specs.NodeItems.{item_of}
 use Rattle.domain_bindings.specs.Reasons.{is_number, is_not_pages, is_too_high}
 use Rattle.domain_bindings.specs.Heads.{memory_of, is_static}

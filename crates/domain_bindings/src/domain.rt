@@ -7,16 +7,17 @@ ghost use Rattle.domain_bindings.specs.Statics.{static_items};
 ghost use Rattle.domain_bindings.specs.Domains.{bootargs_of, partial_of, said_console, said_cpus, said_direct, said_pages, said_spis};
 ghost use Rattle.domain_bindings.specs.Results.{AreDomains, domain_at, domains_at};
 ghost use Rattle.domain_bindings.specs.Assured.{HasHead, HasListedRanges, HasStaticLimit};
-ghost use Rattle.dl_base.specs.Sound.{AreSound};
+ghost use Rattle.described.specs.Sound.{AreSound};
 
 use crate::heads::head_item;
 use crate::modules::{append_modules, first_of_kind, place_of};
 use crate::roles::{Role, children_with, found_with, siblings_with};
 use crate::statics::append_statics;
-use dl_base::{Bytes, Described, List, ModuleKind, What};
+use described::{Described, ModuleKind, What};
 use fdt_nodes::path;
 use fdt_tree::{NodeId, Tree};
 use std::alloc::{AllocError, Global};
+use texts::{Bytes, List};
 
 /// What a tree describes of a guest by the guest's own node and its modules. Of a guest whose head has a reason of its
 /// own, no number is told.

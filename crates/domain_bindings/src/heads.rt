@@ -5,7 +5,7 @@ ghost use Rattle.domain_bindings.specs.Modules.{modules_of};
 ghost use Rattle.domain_bindings.specs.Heads.{channels_of, has_bad_length, has_bad_value, has_no_cpus, has_no_kernel, has_no_memory, has_plain_channel, head_item, head_reason, head_what, heap_pages, is_direct_alone, is_enhanced, is_past_limit, is_too_large};
 
 use crate::modules::first_of_kind;
-use dl_base::{Described, ModuleKind, Part, What, Why, described};
+use described::{Described, ModuleKind, Part, What, Why, described};
 use fdt_nodes::{has, has_other_length, is_value, item_of, u32_at, u64_at};
 use fdt_tree::{NodeId, Tree};
 use std::alloc::{AllocError, Global};

@@ -5,7 +5,7 @@ ghost use Rattle.fdt_nodes.specs.Controllers.{gic_of};
 ghost use Rattle.domain_bindings.specs.Hosts.{dom0_items, have_one_phandle, host_item, host_items, host_reason, items_behind, memory_nodes, ram_regions};
 ghost use Rattle.domain_bindings.specs.HostDevices.{areas_of, console_of, HasUsableDevices};
 ghost use Rattle.domain_bindings.specs.Ram.{IsRam};
-ghost use Rattle.dl_base.specs.Sound.{AreSound};
+ghost use Rattle.described.specs.Sound.{AreSound};
 ghost use Rattle.frame_alloc.specs.Frames.{AreFrameRanges};
 
 use crate::host_devices::{areas_of, console_of};
@@ -13,10 +13,11 @@ use crate::memory::{append_memory, append_reserved, append_reserves};
 use crate::modules::host_modules;
 use crate::ram::ram_of;
 use crate::roles::{Role, found_with, siblings_with};
-use dl_base::{BaseSize, Described, FrameRange, List, Part, What, Why, described};
+use described::{Described, Part, What, Why, described};
 use fdt_nodes::{gic, item_of};
 use fdt_tree::{NodeId, PhandleFault, Reserve, Tree, phandles};
 use std::alloc::{AllocError, Global};
+use texts::{BaseSize, FrameRange, List};
 
 /// What a tree describes of the host: its memory and what is reserved, the modules of dom0, its memory as sorted ranges
 /// that are apart and do not touch, its interrupt controller, and where this and its console stand.

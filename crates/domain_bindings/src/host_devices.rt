@@ -7,10 +7,10 @@ ghost use Rattle.domain_bindings.specs.HostDevices.{areas_of, before_mark, conso
 
 use crate::reasons::{is_not_pages, is_too_high};
 use crate::statics::regions_of;
-use dl_base::{BaseSize, List, mark_at};
 use fdt_nodes::{found, own_cells};
 use fdt_tree::{NodeId, Tree};
 use std::alloc::{AllocError, Global};
+use texts::{BaseSize, List, mark_at};
 
 /// How many bytes of a console's registers are taken: one page.
 const CONSOLE_SIZE: u64 = 0x1000;

@@ -5,10 +5,11 @@ ghost use Rattle.domain_bindings.specs.Statics.{bytes_in};
 ghost use Rattle.domain_bindings.specs.Hosts.{has_uneven_reg, memory_item, memory_items, memory_reason, reg_of, reserve_item, reserve_items, reserved_item, reserved_reason};
 
 use crate::statics::{bytes_in, regions_of};
-use dl_base::{BaseSize, Bytes, Described, Item, List, Part, What, Why, described};
+use described::{Described, Item, Part, What, Why, described};
 use fdt_nodes::{has, item_of};
 use fdt_tree::{NodeId, Reserve, Tree};
 use std::alloc::{AllocError, Global};
+use texts::{BaseSize, Bytes, List};
 
 /// The ranges of a node's `reg` (Devicetree Specification 0.4, 2.3.6).
 fn reg_of(

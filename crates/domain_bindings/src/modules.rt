@@ -6,10 +6,11 @@ ghost use Rattle.domain_bindings.specs.PrivateFirsts.{AreFirsts};
 ghost use Rattle.fdt_nodes.specs.Nodes.{Node};
 
 use crate::reasons::is_too_high;
-use dl_base::{BaseSize, Described, List, ModuleKind, Part, What, Why, described};
+use described::{Described, ModuleKind, Part, What, Why, described};
 use fdt_nodes::{has, is_compatible, item_of, region};
 use fdt_tree::{NodeId, Tree};
 use std::alloc::{AllocError, Global};
+use texts::{BaseSize, List};
 
 /// The kind of a module: the first of the three that it names.
 pub(crate) fn kind_of(tree: &Tree, node: NodeId) -> ModuleKind

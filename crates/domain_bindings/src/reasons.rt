@@ -2,7 +2,7 @@
 ghost use Rattle.std.specs.Prelude.{◌≡◌};
 ghost use Rattle.domain_bindings.specs.Reasons.{is_not_pages, is_too_high};
 
-use dl_base::BaseSize;
+use texts::BaseSize;
 
 /// Whether a range is not whole pages, at least one.
 pub(crate) fn is_not_pages(range: BaseSize) -> bool

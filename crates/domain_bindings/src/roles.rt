@@ -7,10 +7,10 @@ ghost use Rattle.fdt_nodes.specs.Nodes.{children, node_found};
 ghost use Rattle.fdt_nodes.specs.Held.{node_of, Are};
 ghost use Rattle.domain_bindings.specs.PrivateRoles.{has_role};
 
-use dl_base::List;
 use fdt_nodes::{cell_count, children, found, has, is_compatible, is_memory};
 use fdt_tree::{NodeId, Tree};
 use std::alloc::{AllocError, Global};
+use texts::List;
 
 /// What a node is to the readers.
 #[derive(Clone, Copy)]

@@ -2,17 +2,18 @@
 ghost use Rattle.std.specs.Prelude.{◌≡◌, ◌<◌, ◌≤◌, ◌++◌, ◌-◌, ◌^◌, IfOk, IfSome, OnOk, length, min};
 ghost use Rattle.fdt_tree.specs.Tree.{property_of};
 ghost use Rattle.fdt_tree.specs.Document.{properties_of};
-ghost use Rattle.dl_base.specs.declared.item.Part.TheVariants as parts;
+ghost use Rattle.described.specs.declared.item.Part.TheVariants as parts;
 ghost use Rattle.fdt_nodes.specs.Held.{node_of};
 ghost use Rattle.fdt_nodes.specs.NodeItems.{item_of};
 ghost use Rattle.fdt_nodes.specs.Nodes.{Node};
 ghost use Rattle.domain_bindings.specs.Statics.{bytes_in, list_item, list_reason, range_items, regions_of, static_cells, static_item, static_items, static_reason, statics_of};
 
 use crate::reasons::{is_not_pages, is_too_high};
-use dl_base::{BaseSize, Described, Item, List, Part, What, Why, described};
+use described::{Described, Item, Part, What, Why, described};
 use fdt_nodes::{EntriesFault, cell_count, has, item_of, regions, u64_at, with_index};
 use fdt_tree::{NodeId, Tree};
 use std::alloc::{AllocError, Global};
+use texts::{BaseSize, List};
 
 /// The ranges of a property that is a list of them, where its cells are good and it divides into entries.
 pub(crate) fn regions_of(

@@ -5,18 +5,18 @@ use Rattle.std.specs.List.{list_any}
 use Rattle.std.proofs.lemmas.Option.{same_Some, none-some}
 use Rattle.std.proofs.lemmas.Bool.Decides.{eqb_tells}
 use Rattle.std.proofs.lemmas.Slice.Eq.{bytes_eq-Decides}
-use Rattle.dl_base.specs.Consecutive.{is_in}
-use Rattle.dl_base.specs.Maps.{Target, target_of}
-use Rattle.dl_base.specs.declared.ranges.FrameRange.{FrameRange}
-use Rattle.dl_base.specs.declared.ranges.Kind.TheVariants.{Ram, Shared}
-use Rattle.dl_base.specs.declared.item.What.{What}
-use Rattle.dl_base.specs.declared.item.What.TheVariants as whats
+use Rattle.texts.specs.Consecutive.{is_in}
+use Rattle.described.specs.Maps.{Target, target_of}
+use Rattle.texts.specs.declared.ranges.FrameRange.{FrameRange}
+use Rattle.described.specs.declared.map_range.Kind.TheVariants.{Ram, Shared}
+use Rattle.described.specs.declared.item.What.{What}
+use Rattle.described.specs.declared.item.What.TheVariants as whats
 use Rattle.frame_alloc.specs.Frames.{frames_in, AreFrames, AreFramesFrom, AreFrameRanges}
 use Rattle.frame_alloc.proofs.FreeFrames.{is_in_nil, is_in_cons, AreFramesFrom-weaker}
 use Rattle.frame_alloc.proofs.AscendingFrames.{AreFrames-frames_in}
 use Rattle.domain_plan.specs.declared.described.Guest.{Guest}
 use Rattle.domain_bindings.specs.declared.host.Host.{Host}
-use Rattle.dl_base.specs.declared.loaded.Loaded.{Loaded}
+use Rattle.described.specs.declared.loaded.Loaded.{Loaded}
 use Rattle.frame_ranges.specs.Ranges.{holds}
 use Rattle.domain_plan.specs.Entries.{Entry, joined}
 use Rattle.domain_plan.specs.Taken.{Passed, what_of, belongs_to, all_passed}

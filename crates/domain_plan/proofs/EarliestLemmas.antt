@@ -4,7 +4,7 @@ use Rattle.std.specs.List.{find, slice_get}
 use Rattle.std.specs.Prelude.{option_map, option_and_then}
 use Rattle.std.specs.Option.{option_or}
 use Rattle.std.proofs.lemmas.List.Folds.{find-append}
-use Rattle.dl_base.specs.declared.ranges.FrameRange.{FrameRange}
+use Rattle.texts.specs.declared.ranges.FrameRange.{FrameRange}
 use Rattle.domain_plan.specs.declared.state.Taken.{Taken}
 use Rattle.frame_ranges.specs.Ranges.{have_common}
 use Rattle.domain_plan.specs.Taken.{Passed, item_of}

@@ -3,15 +3,15 @@ use Rattle.std.proofs.Common.{◌≡◌, ℕ, ◌/◌, ◌<◌, ◌≤◌, ◌�
 use Rattle.std.specs.Prelude.{slice_get, option_map, ◌==◌, flat_map}
 use Rattle.std.proofs.lemmas.Option.{same_Some, none-some, slice_get-map, slice_get_within, get_or_from_slice_get}
 use Rattle.std.proofs.lemmas.Bool.Decides.{eqb_tells}
-use Rattle.dl_base.specs.Maps.{Target, target_of}
-use Rattle.dl_base.specs.declared.ranges.FrameRange.{FrameRange}
-use Rattle.dl_base.specs.declared.ranges.BaseSize.{BaseSize}
-use Rattle.dl_base.specs.declared.ranges.Kind.TheVariants.{Ram, Device, Shared}
-use Rattle.dl_base.specs.declared.item.What.{What}
-use Rattle.dl_base.specs.declared.item.What.TheVariants as whats
+use Rattle.described.specs.Maps.{Target, target_of}
+use Rattle.texts.specs.declared.ranges.FrameRange.{FrameRange}
+use Rattle.texts.specs.declared.ranges.BaseSize.{BaseSize}
+use Rattle.described.specs.declared.map_range.Kind.TheVariants.{Ram, Device, Shared}
+use Rattle.described.specs.declared.item.What.{What}
+use Rattle.described.specs.declared.item.What.TheVariants as whats
 use Rattle.domain_plan.specs.declared.described.Guest.{Guest}
 use Rattle.domain_bindings.specs.declared.host.Host.{Host}
-use Rattle.dl_base.specs.declared.loaded.Loaded.{Loaded}
+use Rattle.described.specs.declared.loaded.Loaded.{Loaded}
 use Rattle.frame_ranges.specs.Ranges.{holds, touched}
 use Rattle.domain_plan.specs.Entries.{Entry, joined}
 use Rattle.domain_plan.specs.Taken.{Passed, what_of, belongs_to, is_direct, is_repeated, pages_before, bank_pages, pages_of, all_passed}

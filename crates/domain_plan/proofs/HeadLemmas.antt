@@ -3,10 +3,10 @@ use Rattle.std.proofs.Common.{◌≡◌, ℕ, zero, suc, ◌+◌, ◌-◌, ◌*�
 use Rattle.std.specs.Prelude.{slice_get, is_none}
 use Rattle.std.proofs.lemmas.Option.{same_Some, none-some}
 use Rattle.std.proofs.lemmas.List.{map-append}
-use Rattle.dl_base.specs.declared.ranges.FrameRange.{FrameRange}
-use Rattle.dl_base.specs.declared.item.Described.{Described}
-use Rattle.dl_base.specs.declared.item.What.{What}
-use Rattle.dl_base.specs.declared.why.Why.TheVariants.{NoRam}
+use Rattle.texts.specs.declared.ranges.FrameRange.{FrameRange}
+use Rattle.described.specs.declared.item.Described.{Described}
+use Rattle.described.specs.declared.item.What.{What}
+use Rattle.described.specs.declared.why.Why.TheVariants.{NoRam}
 use Rattle.frame_alloc.specs.Frames.{lowest_frame, lowest_chunk, without}
 use Rattle.domain_plan.specs.declared.described.Guest.{Guest}
 use Rattle.domain_plan.specs.Entries.{Entry, of_host, of_guest, guest_entries, joined, load_item, items_of, is_read}
@@ -16,9 +16,9 @@ use Rattle.domain_plan.specs.Draws.{Drawn, Heaps, ◌>>=◌, groups_drawn, drawn
 use Rattle.domain_plan.specs.Arguments.{IsSoundGuest, head_of, has_no_fault}
 use Rattle.domain_plan.specs.Refusals.{or_later, first_refused, first_there, cross_reasons}
 use Rattle.std.specs.Option.{option_or}
-use Rattle.dl_base.specs.declared.why.Why.{Why}
+use Rattle.described.specs.declared.why.Why.{Why}
 use Rattle.domain_bindings.specs.declared.host.Host.{Host}
-use Rattle.dl_base.specs.declared.loaded.Loaded.{Loaded}
+use Rattle.described.specs.declared.loaded.Loaded.{Loaded}
 use Rattle.domain_plan.proofs.MapLemmas.{total}
 
 total-append : (xs ys : List FrameRange) → total (xs ++ ys) ≡ total xs + total ys

@@ -1,20 +1,20 @@
 -- Worked examples: hand-made items, and what the definitions say of them.
 use Rattle.std.specs.Prelude.{Result, Ok, Err, ◌≡◌, ℕ, zero, suc, Bool, true, false, List, [], ◌∷◌, ◌++◌, codes, Option, Some, None, option_map, length, decimal}
 use Rattle.std.proofs.Common.{refl}
-use Rattle.dl_base.specs.declared.ranges.BaseSize.{BaseSize}
-use Rattle.dl_base.specs.declared.ranges.FrameRange.{FrameRange}
-use Rattle.dl_base.specs.declared.ranges.Kind.TheVariants.{Ram, Device}
-use Rattle.dl_base.specs.declared.item.Part.{Part}
-use Rattle.dl_base.specs.declared.item.Part.TheVariants as parts
-use Rattle.dl_base.specs.declared.item.What.{What}
-use Rattle.dl_base.specs.declared.item.What.TheVariants as whats
-use Rattle.dl_base.specs.declared.item.ModuleKind.TheVariants.{Kernel, DeviceTree}
-use Rattle.dl_base.specs.declared.item.Described.{Described}
-use Rattle.dl_base.specs.declared.why.Why.TheVariants.{NotPage}
-use Rattle.dl_base.specs.Items.{item_text, why_text}
-use Rattle.dl_base.specs.Layouts.{usual_layout}
-use Rattle.dl_base.specs.Maps.{target_of, Target}
-use Rattle.dl_base.specs.Consecutive.{numbers, is_in}
+use Rattle.texts.specs.declared.ranges.BaseSize.{BaseSize}
+use Rattle.texts.specs.declared.ranges.FrameRange.{FrameRange}
+use Rattle.described.specs.declared.map_range.Kind.TheVariants.{Ram, Device}
+use Rattle.described.specs.declared.item.Part.{Part}
+use Rattle.described.specs.declared.item.Part.TheVariants as parts
+use Rattle.described.specs.declared.item.What.{What}
+use Rattle.described.specs.declared.item.What.TheVariants as whats
+use Rattle.described.specs.declared.item.ModuleKind.TheVariants.{Kernel, DeviceTree}
+use Rattle.described.specs.declared.item.Described.{Described}
+use Rattle.described.specs.declared.why.Why.TheVariants.{NotPage}
+use Rattle.described.specs.Items.{item_text, why_text}
+use Rattle.described.specs.Layouts.{usual_layout}
+use Rattle.described.specs.Maps.{target_of, Target}
+use Rattle.texts.specs.Consecutive.{numbers, is_in}
 use Rattle.std.specs.Fmt.{digits}
 use Rattle.frame_alloc.specs.Frames.{without, lowest_group}
 use Rattle.frame_ranges.specs.Ranges.{have_common, lie_in}

@@ -5,13 +5,13 @@ use Rattle.std.specs.List.{find, list_any}
 use Rattle.std.specs.Option.{option_or}
 use Rattle.std.proofs.lemmas.Bool.Decides.{nat_tests}
 use Rattle.std.proofs.lemmas.List.Folds.{find-append}
-use Rattle.dl_base.specs.declared.item.Item.{Item}
-use Rattle.dl_base.specs.declared.item.What.{What}
-use Rattle.dl_base.specs.declared.item.What.TheVariants as whats
-use Rattle.dl_base.specs.declared.why.Why.{Why}
+use Rattle.described.specs.declared.item.Item.{Item}
+use Rattle.described.specs.declared.item.What.{What}
+use Rattle.described.specs.declared.item.What.TheVariants as whats
+use Rattle.described.specs.declared.why.Why.{Why}
 use Rattle.domain_plan.specs.declared.state.Taker.{Taker}
 use Rattle.domain_plan.specs.Taken.{Passed, item_of, what_of, belongs_to}
-use Rattle.dl_base.specs.Reasons.{where_so}
+use Rattle.described.specs.Reasons.{where_so}
 use Rattle.domain_plan.specs.Reasons.{is_irq, is_past_spis, has_console}
 use Rattle.domain_plan.specs.PrivateStanding.{is_guest, is_other, first_other, is_irq_of_other, is_of_other, item_where}
 use Rattle.frame_ranges.proofs.CommonFrames.{or_none}

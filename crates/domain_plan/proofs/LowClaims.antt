@@ -1,10 +1,10 @@
 -- Every frame that an item claims is below 2^28.
 use Rattle.std.proofs.Common.{◌≡◌, ℕ, zero, suc, ◌+◌, ◌/◌, ◌^◌, ◌<◌, ◌≤◌, Bool, true, false, cond, List, [], ◌∷◌, ◌++◌, length, map, get_or, Option, Some, None, sym, subst, arith}
 use Rattle.std.specs.Prelude.{◌==◌}
-use Rattle.dl_base.specs.declared.ranges.BaseSize.{BaseSize}
-use Rattle.dl_base.specs.declared.ranges.FrameRange.{FrameRange}
-use Rattle.dl_base.specs.declared.item.What.{What}
-use Rattle.dl_base.specs.declared.item.What.TheVariants as whats
+use Rattle.texts.specs.declared.ranges.BaseSize.{BaseSize}
+use Rattle.texts.specs.declared.ranges.FrameRange.{FrameRange}
+use Rattle.described.specs.declared.item.What.{What}
+use Rattle.described.specs.declared.item.What.TheVariants as whats
 use Rattle.domain_plan.specs.declared.state.Taken.{Taken}
 use Rattle.frame_ranges.specs.Ranges.{touched, cut, between}
 use Rattle.domain_plan.specs.Entries.{Entry}

@@ -4,29 +4,29 @@ use Rattle.std.specs.Prelude.{slice_get, flat_map, sum_by, is_none, ◌&&◌, �
 use Rattle.std.proofs.lemmas.Grind.{flat_map-append}
 use Rattle.std.proofs.lemmas.List.Sums.{sum_by-append, sum_by-cons}
 use Rattle.std.proofs.lemmas.Option.{same_Some, none-some}
-use Rattle.dl_base.specs.Consecutive.{is_in}
-use Rattle.dl_base.specs.declared.ranges.BaseSize.{BaseSize}
-use Rattle.dl_base.specs.declared.ranges.FrameRange.{FrameRange}
-use Rattle.dl_base.specs.declared.ranges.MapRange.{MapRange}
-use Rattle.dl_base.specs.declared.ranges.Kind.{Kind}
-use Rattle.dl_base.specs.declared.ranges.Kind.TheVariants.{Ram, Device, Shared}
-use Rattle.dl_base.specs.declared.item.Described.{Described}
-use Rattle.dl_base.specs.declared.item.What.{What}
-use Rattle.dl_base.specs.declared.item.What.TheVariants as whats
-use Rattle.dl_base.specs.declared.why.Why.{Why}
+use Rattle.texts.specs.Consecutive.{is_in}
+use Rattle.texts.specs.declared.ranges.BaseSize.{BaseSize}
+use Rattle.texts.specs.declared.ranges.FrameRange.{FrameRange}
+use Rattle.described.specs.declared.map_range.MapRange.{MapRange}
+use Rattle.described.specs.declared.map_range.Kind.{Kind}
+use Rattle.described.specs.declared.map_range.Kind.TheVariants.{Ram, Device, Shared}
+use Rattle.described.specs.declared.item.Described.{Described}
+use Rattle.described.specs.declared.item.What.{What}
+use Rattle.described.specs.declared.item.What.TheVariants as whats
+use Rattle.described.specs.declared.why.Why.{Why}
 use Rattle.frame_alloc.specs.Frames.{AreFrames, is_within}
 use Rattle.frame_alloc.proofs.FreeFrames.{AreFramesFrom-member}
 use Rattle.frame_alloc.proofs.Without.{is_within-in}
 use Rattle.domain_plan.specs.declared.described.Guest.{Guest}
 use Rattle.domain_bindings.specs.declared.host.Host.{Host}
-use Rattle.dl_base.specs.declared.loaded.Loaded.{Loaded}
+use Rattle.described.specs.declared.loaded.Loaded.{Loaded}
 use Rattle.frame_ranges.specs.Ranges.{holds, touched, cut, between}
 use Rattle.domain_plan.specs.Entries.{Entry, of_host, of_guest, guest_entries, joined, load_item, is_read, items_of}
 use Rattle.domain_plan.specs.Taken.{Passed, what_of, belongs_to, static_pages, is_direct, pages_before, is_repeated, bank_pages, bank_size, pages_of, passing, all_passed}
 use Rattle.domain_plan.specs.Draws.{Heaps, heaps}
 use Rattle.domain_plan.specs.GuestMaps.{onto, laid, maps_of, guest_ranges}
 use Rattle.domain_plan.specs.PrivateLaying.{total, AreLowFrames, maps_by}
-use Rattle.dl_base.specs.Sound.{AreWholePages, IsSound, SoundUnless}
+use Rattle.described.specs.Sound.{AreWholePages, IsSound, SoundUnless}
 use Rattle.domain_plan.specs.Arguments.{AreSound, IsSoundGuest, has_no_fault, whats_of, head_of}
 use Rattle.frame_ranges.proofs.CommonFrames.{or_left, or_right}
 use Rattle.domain_plan.proofs.DrawLemmas.{heaps_tell}

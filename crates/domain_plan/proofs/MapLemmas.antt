@@ -4,14 +4,14 @@ use Rattle.std.specs.Prelude.{slice_get, flat_map, ◌==◌}
 use Rattle.std.specs.Option.{option_or}
 use Rattle.std.proofs.lemmas.Option.{same_Some, none-some}
 use Rattle.std.proofs.lemmas.Bool.Decides.{eqb_tells}
-use Rattle.dl_base.specs.Maps.{Target, target_of, holds_page}
-use Rattle.dl_base.specs.declared.ranges.BaseSize.{BaseSize}
-use Rattle.dl_base.specs.declared.ranges.FrameRange.{FrameRange}
-use Rattle.dl_base.specs.declared.ranges.MapRange.{MapRange}
-use Rattle.dl_base.specs.declared.ranges.Kind.{Kind}
-use Rattle.dl_base.specs.declared.ranges.Kind.TheVariants.{Ram, Device, Shared}
-use Rattle.dl_base.specs.declared.item.What.{What}
-use Rattle.dl_base.specs.declared.item.What.TheVariants as whats
+use Rattle.described.specs.Maps.{Target, target_of, holds_page}
+use Rattle.texts.specs.declared.ranges.BaseSize.{BaseSize}
+use Rattle.texts.specs.declared.ranges.FrameRange.{FrameRange}
+use Rattle.described.specs.declared.map_range.MapRange.{MapRange}
+use Rattle.described.specs.declared.map_range.Kind.{Kind}
+use Rattle.described.specs.declared.map_range.Kind.TheVariants.{Ram, Device, Shared}
+use Rattle.described.specs.declared.item.What.{What}
+use Rattle.described.specs.declared.item.What.TheVariants as whats
 use Rattle.frame_alloc.specs.Frames.{is_within}
 use Rattle.frame_alloc.proofs.Without.{is_within-in}
 use Rattle.domain_bindings.specs.declared.host.Host.{Host}
@@ -19,7 +19,7 @@ use Rattle.frame_ranges.specs.Ranges.{holds, touched, cut}
 use Rattle.domain_plan.specs.Taken.{Passed, what_of, belongs_to, bank_pages, is_direct, pages_before, is_repeated, claims_of, pages_of}
 use Rattle.domain_plan.specs.GuestMaps.{onto, laid, maps_of, guest_ranges}
 pub use Rattle.domain_plan.specs.PrivateLaying.{total}
-use Rattle.dl_base.specs.Sound.{AreWholePages, IsSound}
+use Rattle.described.specs.Sound.{AreWholePages, IsSound}
 use Rattle.frame_ranges.proofs.CommonFrames.{or_left, or_right, within_tells, holds_one}
 use Rattle.domain_plan.proofs.ClearLemmas.{IsClear, is_mapping}
 

@@ -4,13 +4,13 @@ use Rattle.std.specs.Prelude.{slice_get, flat_map, sum_by}
 use Rattle.std.specs.List.{list_any}
 use Rattle.std.proofs.lemmas.Option.{same_Some, none-some}
 use Rattle.std.proofs.lemmas.Bool.Decides.{leb_tells}
-use Rattle.dl_base.specs.declared.ranges.FrameRange.{FrameRange}
-use Rattle.dl_base.specs.declared.ranges.MapRange.{MapRange}
-use Rattle.dl_base.specs.declared.item.Described.{Described}
-use Rattle.dl_base.specs.declared.item.What.{What}
+use Rattle.texts.specs.declared.ranges.FrameRange.{FrameRange}
+use Rattle.described.specs.declared.map_range.MapRange.{MapRange}
+use Rattle.described.specs.declared.item.Described.{Described}
+use Rattle.described.specs.declared.item.What.{What}
 use Rattle.domain_bindings.specs.declared.host.Host.{Host}
 use Rattle.domain_plan.specs.declared.described.Guest.{Guest}
-use Rattle.dl_base.specs.declared.loaded.Loaded.{Loaded}
+use Rattle.described.specs.declared.loaded.Loaded.{Loaded}
 use Rattle.frame_ranges.specs.Ranges.{holds}
 use Rattle.frame_ranges.proofs.CommonFrames.{true_or_false, not_both}
 use Rattle.domain_plan.specs.Entries.{joined, of_guest, is_read, items_of}

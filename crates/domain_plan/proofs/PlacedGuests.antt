@@ -4,15 +4,15 @@ use Rattle.std.specs.Prelude.{slice_get, option_map, sum_by, length, nat_lt, is_
 use Rattle.std.proofs.lemmas.Option.{slice_get-map}
 use Rattle.std.proofs.lemmas.List.{map-append}
 use Rattle.std.proofs.lemmas.List.Sums.{sum_by-cons}
-use Rattle.dl_base.specs.Sound.{IsSound, SoundUnless}
-use Rattle.dl_base.specs.declared.ranges.FrameRange.{FrameRange}
-use Rattle.dl_base.specs.declared.item.Described.{Described}
-use Rattle.dl_base.specs.declared.item.Part.TheVariants as parts
-use Rattle.dl_base.specs.declared.item.What.{What}
-use Rattle.dl_base.specs.declared.item.What.TheVariants as whats
-use Rattle.dl_base.specs.declared.loaded.Loaded.{Loaded}
-use Rattle.dl_base.specs.declared.why.Why.{Why}
-use Rattle.dl_base.specs.declared.why.Why.TheVariants.{TooHigh, NoRam}
+use Rattle.described.specs.Sound.{IsSound, SoundUnless}
+use Rattle.texts.specs.declared.ranges.FrameRange.{FrameRange}
+use Rattle.described.specs.declared.item.Described.{Described}
+use Rattle.described.specs.declared.item.Part.TheVariants as parts
+use Rattle.described.specs.declared.item.What.{What}
+use Rattle.described.specs.declared.item.What.TheVariants as whats
+use Rattle.described.specs.declared.loaded.Loaded.{Loaded}
+use Rattle.described.specs.declared.why.Why.{Why}
+use Rattle.described.specs.declared.why.Why.TheVariants.{TooHigh, NoRam}
 use Rattle.domain_bindings.specs.declared.domain.Domain.{Domain}
 use Rattle.domain_bindings.specs.declared.host.Host.{Host}
 use Rattle.domain_plan.specs.declared.described.Guest.{Guest}

@@ -4,16 +4,16 @@ use Rattle.std.specs.Prelude.{slice_get, option_map, sum_by, ◌==◌}
 use Rattle.std.proofs.lemmas.Bool.Decides.{eqb_tells}
 use Rattle.std.specs.List.{list_any, filter}
 use Rattle.std.proofs.lemmas.Option.{same_Some, none-some, slice_get-map}
-use Rattle.dl_base.specs.Consecutive.{is_in}
-use Rattle.dl_base.specs.Sound.{IsSound}
-use Rattle.dl_base.specs.declared.ranges.FrameRange.{FrameRange}
-use Rattle.dl_base.specs.declared.item.What.{What}
+use Rattle.texts.specs.Consecutive.{is_in}
+use Rattle.described.specs.Sound.{IsSound}
+use Rattle.texts.specs.declared.ranges.FrameRange.{FrameRange}
+use Rattle.described.specs.declared.item.What.{What}
 use Rattle.frame_alloc.specs.Frames.{frames_in, AreFrames}
 use Rattle.frame_alloc.proofs.FreeFrames.{is_in_cons}
 use Rattle.frame_ranges.specs.Ranges.{holds}
 use Rattle.frame_ranges.proofs.CommonFrames.{true_or_false, not_both}
 use Rattle.domain_bindings.specs.declared.host.Host.{Host}
-use Rattle.dl_base.specs.declared.loaded.Loaded.{Loaded}
+use Rattle.described.specs.declared.loaded.Loaded.{Loaded}
 use Rattle.domain_plan.specs.declared.described.Guest.{Guest}
 use Rattle.domain_plan.specs.Entries.{Entry, joined, of_guest, is_read, items_of}
 use Rattle.domain_plan.specs.Taken.{Passed, what_of, says_direct, static_pages, all_passed}

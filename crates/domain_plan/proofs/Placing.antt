@@ -4,12 +4,12 @@ use Rattle.std.specs.Prelude.{option_map, sum_by, is_some}
 use Rattle.std.specs.List.{find, list_any}
 use Rattle.std.proofs.lemmas.List.{map-append}
 use Rattle.std.proofs.lemmas.List.Sums.{sum_by-cons}
-use Rattle.dl_base.specs.declared.ranges.BaseSize.{BaseSize}
-use Rattle.dl_base.specs.declared.ranges.FrameRange.{FrameRange}
-use Rattle.dl_base.specs.declared.item.Item.{Item}
-use Rattle.dl_base.specs.declared.item.What.{What}
-use Rattle.dl_base.specs.declared.item.What.TheVariants as whats
-use Rattle.dl_base.specs.declared.why.Why.{Why}
+use Rattle.texts.specs.declared.ranges.BaseSize.{BaseSize}
+use Rattle.texts.specs.declared.ranges.FrameRange.{FrameRange}
+use Rattle.described.specs.declared.item.Item.{Item}
+use Rattle.described.specs.declared.item.What.{What}
+use Rattle.described.specs.declared.item.What.TheVariants as whats
+use Rattle.described.specs.declared.why.Why.{Why}
 use Rattle.domain_bindings.specs.declared.host.Host.{Host}
 use Rattle.frame_ranges.specs.Ranges.{cut, touched}
 use Rattle.domain_plan.specs.Entries.{Entry}

@@ -4,18 +4,18 @@ use Rattle.std.specs.Prelude.{slice_get, option_map}
 use Rattle.std.proofs.Common.{Vec, Global, take}
 use Rattle.std.proofs.lemmas.List.{map-append, length-map, take_more, length-take-le, take_all}
 use Rattle.std.proofs.lemmas.Option.{same_Some, slice_get-map}
-use Rattle.dl_base.specs.declared.ranges.FrameRange.{FrameRange}
-use Rattle.dl_base.specs.declared.item.Described.{Described}
-use Rattle.dl_base.specs.declared.why.Why.TheVariants.{NoRam}
+use Rattle.texts.specs.declared.ranges.FrameRange.{FrameRange}
+use Rattle.described.specs.declared.item.Described.{Described}
+use Rattle.described.specs.declared.why.Why.TheVariants.{NoRam}
 use Rattle.domain_plan.specs.declared.described.Guest.{Guest}
 use Rattle.domain_bindings.specs.declared.host.Host.{Host}
-use Rattle.dl_base.specs.declared.loaded.Loaded.{Loaded}
+use Rattle.described.specs.declared.loaded.Loaded.{Loaded}
 use Rattle.domain_plan.specs.declared.planned.GuestPlan.{GuestPlan}
 use Rattle.domain_plan.specs.Entries.{joined, of_guest, is_read, items_of}
 use Rattle.domain_plan.specs.Taken.{Passed}
 use Rattle.domain_plan.specs.Refusals.{Refusal, first_refused}
 use Rattle.domain_plan.specs.Draws.{Drawn, Heaps, drawn, heaps, and_drawn, heap_item}
-use Rattle.dl_base.specs.Sound.{IsSound}
+use Rattle.described.specs.Sound.{IsSound}
 use Rattle.domain_plan.specs.Arguments.{AreRead, IsSoundGuest}
 use Rattle.domain_plan.specs.PrivateLaying.{total, AreApart}
 use Rattle.domain_plan.specs.Plans.{passed_of, IsGuestPlan, AreGuestPlans}

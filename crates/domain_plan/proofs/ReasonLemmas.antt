@@ -3,18 +3,18 @@ use Rattle.std.proofs.Common.{◌≡◌, ℕ, ◌&&◌, Bool, true, false, cond,
 use Rattle.std.specs.Prelude.{option_map}
 use Rattle.std.specs.Option.{option_or}
 use Rattle.std.specs.List.{find}
-use Rattle.dl_base.specs.declared.ranges.FrameRange.{FrameRange}
-use Rattle.dl_base.specs.declared.item.Item.{Item}
-use Rattle.dl_base.specs.declared.why.Why.{Why}
-use Rattle.dl_base.specs.declared.why.Why.TheVariants as whys
-use Rattle.dl_base.specs.declared.ranges.BaseSize.{BaseSize}
-use Rattle.dl_base.specs.declared.item.ModuleKind.{ModuleKind}
-use Rattle.dl_base.specs.declared.item.What.{What}
-use Rattle.dl_base.specs.declared.item.What.TheVariants as whats
+use Rattle.texts.specs.declared.ranges.FrameRange.{FrameRange}
+use Rattle.described.specs.declared.item.Item.{Item}
+use Rattle.described.specs.declared.why.Why.{Why}
+use Rattle.described.specs.declared.why.Why.TheVariants as whys
+use Rattle.texts.specs.declared.ranges.BaseSize.{BaseSize}
+use Rattle.described.specs.declared.item.ModuleKind.{ModuleKind}
+use Rattle.described.specs.declared.item.What.{What}
+use Rattle.described.specs.declared.item.What.TheVariants as whats
 use Rattle.domain_bindings.specs.declared.host.Host.{Host}
 use Rattle.frame_ranges.specs.Ranges.{have_common, lie_in}
 use Rattle.domain_plan.specs.Taken.{Passed, item_of, what_of, belongs_to}
-use Rattle.dl_base.specs.Reasons.{where_so}
+use Rattle.described.specs.Reasons.{where_so}
 use Rattle.domain_plan.specs.Reasons.{naming_first, area_pages, layout_at, guest_overlap, fills, partial_unread, are_one_region, have_one_base, unlike, is_owner, is_irq, of_another_guest, irq_too_high, irq_of_console, irq_of_another}
 use Rattle.domain_plan.specs.Refusals.{cross_reasons, first_there}
 use Rattle.domain_plan.specs.PrivateStanding.{claims_taken, pages_taken, overlap_in, is_region, naming_reasons, landing_reasons, is_of_other, irq_reasons}

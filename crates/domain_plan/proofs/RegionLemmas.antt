@@ -5,17 +5,17 @@ use Rattle.std.specs.List.{find, slice_get, list_any}
 use Rattle.std.specs.Option.{option_or}
 use Rattle.std.proofs.lemmas.Bool.Decides.{nat_tests}
 use Rattle.std.proofs.lemmas.List.Folds.{find-append, list_any-append}
-use Rattle.dl_base.specs.declared.ranges.FrameRange.{FrameRange}
-use Rattle.dl_base.specs.declared.item.Item.{Item}
-use Rattle.dl_base.specs.declared.item.What.{What}
-use Rattle.dl_base.specs.declared.item.What.TheVariants as whats
-use Rattle.dl_base.specs.declared.why.Why.{Why}
-use Rattle.dl_base.specs.declared.why.Why.TheVariants as whys
+use Rattle.texts.specs.declared.ranges.FrameRange.{FrameRange}
+use Rattle.described.specs.declared.item.Item.{Item}
+use Rattle.described.specs.declared.item.What.{What}
+use Rattle.described.specs.declared.item.What.TheVariants as whats
+use Rattle.described.specs.declared.why.Why.{Why}
+use Rattle.described.specs.declared.why.Why.TheVariants as whys
 use Rattle.domain_plan.specs.declared.state.Region.{Region}
 use Rattle.domain_plan.specs.declared.state.Taken.{Taken}
 use Rattle.frame_ranges.specs.Ranges.{have_common}
 use Rattle.domain_plan.specs.Taken.{Passed, item_of, what_of, belongs_to}
-use Rattle.dl_base.specs.Reasons.{where_so}
+use Rattle.described.specs.Reasons.{where_so}
 use Rattle.domain_plan.specs.Reasons.{is_same_host, have_one_base, unlike, is_owner}
 use Rattle.domain_plan.specs.PrivateStanding.{taken_at, taken_from, claims_taken, is_guest, region_in, regions_from, is_region, is_sought, is_region_at}
 use Rattle.frame_ranges.proofs.CommonFrames.{none_common, common-cons_left}

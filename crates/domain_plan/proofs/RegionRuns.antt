@@ -7,14 +7,14 @@ use Rattle.std.proofs.lemmas.Option.{same_Some, none-some, slice_get_within}
 use Rattle.std.proofs.lemmas.List.Folds.{find-append}
 use Rattle.std.proofs.lemmas.Bool.Decides.{eqb_tells}
 use Rattle.std.proofs.lemmas.Slice.Eq.{bytes_eq-Decides}
-use Rattle.dl_base.specs.Consecutive.{is_in}
-use Rattle.dl_base.specs.Sound.{AreWholePages, IsSound, IsSoundRegion}
-use Rattle.dl_base.specs.declared.ranges.FrameRange.{FrameRange}
-use Rattle.dl_base.specs.declared.item.What.{What}
-use Rattle.dl_base.specs.declared.item.What.TheVariants as whats
-use Rattle.dl_base.specs.declared.why.Why.{Why}
-use Rattle.dl_base.specs.declared.why.Why.TheVariants as whys
-use Rattle.dl_base.specs.Reasons.{where_so}
+use Rattle.texts.specs.Consecutive.{is_in}
+use Rattle.described.specs.Sound.{AreWholePages, IsSound, IsSoundRegion}
+use Rattle.texts.specs.declared.ranges.FrameRange.{FrameRange}
+use Rattle.described.specs.declared.item.What.{What}
+use Rattle.described.specs.declared.item.What.TheVariants as whats
+use Rattle.described.specs.declared.why.Why.{Why}
+use Rattle.described.specs.declared.why.Why.TheVariants as whys
+use Rattle.described.specs.Reasons.{where_so}
 use Rattle.frame_alloc.specs.Frames.{is_within}
 use Rattle.domain_bindings.specs.declared.host.Host.{Host}
 use Rattle.frame_ranges.specs.Ranges.{holds, touched}

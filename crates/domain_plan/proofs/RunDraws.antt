@@ -2,8 +2,8 @@
 use Rattle.std.proofs.Common.{◌≡◌, ℕ, zero, suc, ◌+◌, ◌*◌, ◌/◌, ◌%◌, ◌^◌, ◌<◌, ◌≤◌, ◌⊎◌, Bool, true, false, List, [], ◌∷◌, length, Option, Some, None, Result, Ok, Err, refl, sym, ap, subst, ◌∙◌, inl, inr, arith}
 use Rattle.std.specs.Prelude.{slice_get}
 use Rattle.std.proofs.lemmas.Option.{same_Some, none-some}
-use Rattle.dl_base.specs.Consecutive.{is_in}
-use Rattle.dl_base.specs.declared.why.Why.TheVariants.{NoRam}
+use Rattle.texts.specs.Consecutive.{is_in}
+use Rattle.described.specs.declared.why.Why.TheVariants.{NoRam}
 use Rattle.frame_alloc.specs.Frames.{AreFrames, without, lowest_run}
 use Rattle.frame_alloc.proofs.FreeFrames.{is_in-from_without, is_in-without_taken, AreFrames-without, lowest_run-tells}
 use Rattle.frame_alloc.proofs.AscendingFrames.{lowest_run-bound}

@@ -4,14 +4,14 @@ use Rattle.std.specs.Prelude.{filter}
 use Rattle.std.specs.Prelude.{◌==◌, ◌||◌, ◌&&◌, Some}
 use Rattle.std.specs.List.{list_any}
 use Rattle.std.proofs.lemmas.List.Folds.{list_any-append}
-use Rattle.dl_base.specs.declared.item.What.{What}
-use Rattle.dl_base.specs.declared.item.What.TheVariants as whats
+use Rattle.described.specs.declared.item.What.{What}
+use Rattle.described.specs.declared.item.What.TheVariants as whats
 use Rattle.domain_plan.specs.Taken.{Passed, what_of, belongs_to}
 use Rattle.domain_plan.specs.Reasons.{is_irq}
 use Rattle.domain_plan.specs.Plans.{said_by}
 use Rattle.domain_plan.specs.PrivateGiving.{irq_of}
-use Rattle.dl_base.specs.Consecutive.{numbers}
-use Rattle.dl_base.proofs.NumberLists.{numbers-zero, numbers-cons}
+use Rattle.texts.specs.Consecutive.{numbers}
+use Rattle.texts.proofs.NumberLists.{numbers-zero, numbers-cons}
 
 front : (test : ℕ → Bool) (end i : ℕ) → i < end → filter test (numbers i (end - i)) ≡ cond (test i) (i ∷ filter test (numbers (i + 1) (end - (i + 1)))) (filter test (numbers (i + 1) (end - (i + 1))))
 front test end i low =

@@ -3,10 +3,10 @@ use Rattle.std.proofs.Common.{◌≡◌, ℕ, suc, ◌+◌, ◌||◌, ◌&&◌, 
 use Rattle.std.specs.Prelude.{◌==◌, nat_le, flat_map, sum_by}
 use Rattle.std.specs.List.{list_any}
 use Rattle.std.proofs.lemmas.List.Folds.{list_any-append}
-use Rattle.dl_base.specs.declared.ranges.BaseSize.{BaseSize}
-use Rattle.dl_base.specs.declared.ranges.FrameRange.{FrameRange}
-use Rattle.dl_base.specs.declared.item.What.{What}
-use Rattle.dl_base.specs.declared.item.What.TheVariants as whats
+use Rattle.texts.specs.declared.ranges.BaseSize.{BaseSize}
+use Rattle.texts.specs.declared.ranges.FrameRange.{FrameRange}
+use Rattle.described.specs.declared.item.What.{What}
+use Rattle.described.specs.declared.item.What.TheVariants as whats
 use Rattle.std.proofs.lemmas.Bool.Decides.{nat_tests}
 use Rattle.std.proofs.lemmas.List.{map-append, length-map}
 use Rattle.std.proofs.lemmas.List.Sums.{sum_by-append, sum_by-cons}
@@ -16,7 +16,7 @@ use Rattle.domain_plan.proofs.IrqLemmas.{item_where-more, other_is}
 use Rattle.std.specs.Option.{option_or}
 use Rattle.domain_plan.specs.Reasons.{is_past_spis, has_console, is_irq}
 use Rattle.std.proofs.lemmas.Grind.{flat_map-append}
-use Rattle.dl_base.specs.declared.item.Described.{Described}
+use Rattle.described.specs.declared.item.Described.{Described}
 use Rattle.domain_plan.specs.declared.state.Owner.{Owner}
 use Rattle.domain_plan.specs.declared.state.State.{State}
 use Rattle.domain_plan.specs.declared.state.Taken.{Taken}

@@ -1,15 +1,15 @@
 -- That guests are apart: a law over the definitions.
 use Rattle.std.specs.Prelude.{◌≡◌, ℕ, ◌&&◌, Bool, false, IsTrue, List, [], ◌∷◌, Some, Ok, slice_get}
 use Rattle.std.specs.List.{list_any}
-use Rattle.dl_base.specs.Consecutive.{is_in}
-use Rattle.dl_base.specs.Maps.{Target, target_of}
-use Rattle.dl_base.specs.declared.ranges.FrameRange.{FrameRange}
-use Rattle.dl_base.specs.declared.ranges.MapRange.{MapRange}
-use Rattle.dl_base.specs.declared.ranges.Kind.TheVariants.{Shared}
+use Rattle.texts.specs.Consecutive.{is_in}
+use Rattle.described.specs.Maps.{Target, target_of}
+use Rattle.texts.specs.declared.ranges.FrameRange.{FrameRange}
+use Rattle.described.specs.declared.map_range.MapRange.{MapRange}
+use Rattle.described.specs.declared.map_range.Kind.TheVariants.{Shared}
 use Rattle.frame_alloc.specs.Frames.{AreFrames}
 use Rattle.domain_plan.specs.declared.described.Guest.{Guest}
 use Rattle.domain_bindings.specs.declared.host.Host.{Host}
-use Rattle.dl_base.specs.declared.loaded.Loaded.{Loaded}
+use Rattle.described.specs.declared.loaded.Loaded.{Loaded}
 use Rattle.frame_ranges.specs.Ranges.{holds}
 use Rattle.domain_plan.specs.Taken.{Passed, what_of, belongs_to}
 use Rattle.domain_plan.specs.Reasons.{are_one_region}

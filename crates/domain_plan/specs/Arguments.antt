@@ -1,16 +1,16 @@
 -- What the readers of a description give, as far as a plan rests on it.
 use Rattle.std.specs.Prelude.{◌≡◌, ◌^◌, ◌≤◌, is_none, sum_by, Bool, IsTrue, List, [], ◌∷◌, map, slice_get, Some, All}
 use Rattle.std.specs.List.{list_all}
-use Rattle.dl_base.specs.declared.item.Described.{Described}
-use Rattle.dl_base.specs.declared.item.What.{What}
-use Rattle.dl_base.specs.declared.item.What.TheVariants as whats
-use Rattle.dl_base.specs.Sound.{SoundUnless}
+use Rattle.described.specs.declared.item.Described.{Described}
+use Rattle.described.specs.declared.item.What.{What}
+use Rattle.described.specs.declared.item.What.TheVariants as whats
+use Rattle.described.specs.Sound.{SoundUnless}
 use Rattle.frame_alloc.specs.Frames.{AreFrameRanges}
 use Rattle.domain_bindings.specs.HostDevices.{HasUsableDevices}
 use Rattle.domain_bindings.specs.declared.domain.Domain.{Domain}
 use Rattle.domain_plan.specs.declared.described.Guest.{Guest}
 use Rattle.domain_bindings.specs.declared.host.Host.{Host}
-use Rattle.dl_base.specs.declared.loaded.Loaded.{Loaded}
+use Rattle.described.specs.declared.loaded.Loaded.{Loaded}
 use Rattle.domain_plan.specs.Entries.{Entry, joined, items_of}
 use Rattle.domain_plan.specs.Taken.{static_pages}
 

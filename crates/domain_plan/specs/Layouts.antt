@@ -3,9 +3,9 @@
 use Rattle.std.specs.Prelude.{nat_le, ◌&&◌, ◌||◌, Bool, IsTrue, if◌then◌else◌, List, [], ◌∷◌}
 use Rattle.std.specs.List.{list_all}
 use Rattle.std.specs.Option.{option_map_or}
-use Rattle.dl_base.specs.declared.layout.Layout.{Layout}
-use Rattle.dl_base.specs.declared.ranges.BaseSize.{BaseSize}
-use Rattle.dl_base.specs.Layouts.{usual_layout}
+use Rattle.described.specs.declared.layout.Layout.{Layout}
+use Rattle.texts.specs.declared.ranges.BaseSize.{BaseSize}
+use Rattle.described.specs.Layouts.{usual_layout}
 use Rattle.domain_bindings.specs.HostDevices.{is_usable, as_range, console_range}
 use Rattle.domain_bindings.specs.Reasons.{end_of}
 use Rattle.domain_bindings.specs.declared.host.Host.{Host}

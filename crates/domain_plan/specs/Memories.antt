@@ -1,15 +1,15 @@
 -- That the memory which a plan lists is what its map gives the guest as its own: a law over the definitions.
 use Rattle.std.specs.Prelude.{◌≡◌, ℕ, ◌<◌, sum_by, Bool, true, false, List, flat_map, drop, Option, Some, None, Ok, slice_get}
 use Rattle.std.specs.List.{list_any}
-use Rattle.dl_base.specs.Consecutive.{numbers, is_in}
-use Rattle.dl_base.specs.Maps.{Target, target_of}
-use Rattle.dl_base.specs.declared.ranges.FrameRange.{FrameRange}
-use Rattle.dl_base.specs.declared.ranges.Kind.{Kind}
-use Rattle.dl_base.specs.declared.ranges.Kind.TheVariants.{Ram, Device, Shared}
-use Rattle.dl_base.specs.declared.ranges.MapRange.{MapRange}
+use Rattle.texts.specs.Consecutive.{numbers, is_in}
+use Rattle.described.specs.Maps.{Target, target_of}
+use Rattle.texts.specs.declared.ranges.FrameRange.{FrameRange}
+use Rattle.described.specs.declared.map_range.Kind.{Kind}
+use Rattle.described.specs.declared.map_range.Kind.TheVariants.{Ram, Device, Shared}
+use Rattle.described.specs.declared.map_range.MapRange.{MapRange}
 use Rattle.domain_bindings.specs.declared.host.Host.{Host}
 use Rattle.domain_plan.specs.declared.described.Guest.{Guest}
-use Rattle.dl_base.specs.declared.loaded.Loaded.{Loaded}
+use Rattle.described.specs.declared.loaded.Loaded.{Loaded}
 use Rattle.domain_plan.specs.Taken.{says_direct, static_pages}
 use Rattle.domain_plan.specs.GuestMaps.{guest_ranges}
 use Rattle.domain_plan.specs.Arguments.{whats_of}

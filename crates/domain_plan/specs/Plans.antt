@@ -1,14 +1,14 @@
 -- The plan of a description, or the first item that is refused.
 use Rattle.std.specs.Prelude.{◌≡◌, ℕ, ◌+◌, ◌&&◌, nat_lt, if◌then◌else◌, List, [], ◌∷◌, map, filter, flat_map, Option, Some, None, Result, Ok, Err}
 use Rattle.std.specs.List.{list_any}
-use Rattle.dl_base.specs.Consecutive.{numbers}
-use Rattle.dl_base.specs.Maps.{target_of, AreMapRanges, AreMerged}
-use Rattle.dl_base.specs.declared.ranges.FrameRange.{FrameRange}
-use Rattle.dl_base.specs.declared.item.What.{What}
-use Rattle.dl_base.specs.declared.item.What.TheVariants as whats
+use Rattle.texts.specs.Consecutive.{numbers}
+use Rattle.described.specs.Maps.{target_of, AreMapRanges, AreMerged}
+use Rattle.texts.specs.declared.ranges.FrameRange.{FrameRange}
+use Rattle.described.specs.declared.item.What.{What}
+use Rattle.described.specs.declared.item.What.TheVariants as whats
 use Rattle.domain_plan.specs.declared.described.Guest.{Guest}
 use Rattle.domain_bindings.specs.declared.host.Host.{Host}
-use Rattle.dl_base.specs.declared.loaded.Loaded.{Loaded}
+use Rattle.described.specs.declared.loaded.Loaded.{Loaded}
 use Rattle.domain_plan.specs.declared.described.PartialState.{PartialState}
 use Rattle.domain_plan.specs.declared.described.PartialState.TheVariants as states
 use Rattle.domain_plan.specs.declared.planned.GuestPlan.{GuestPlan}

@@ -1,12 +1,12 @@
 -- For proofs and private contracts alone: what was gathered of a guest's items.
 use Rattle.std.specs.Prelude.{◌≡◌, ℕ, ◌^◌, ◌≤◌, All, List, [], ◌∷◌, Some}
-use Rattle.dl_base.specs.declared.ranges.FrameRange.{FrameRange}
-use Rattle.dl_base.specs.declared.item.What.{What}
-use Rattle.dl_base.specs.declared.item.What.TheVariants as whats
+use Rattle.texts.specs.declared.ranges.FrameRange.{FrameRange}
+use Rattle.described.specs.declared.item.What.{What}
+use Rattle.described.specs.declared.item.What.TheVariants as whats
 use Rattle.domain_plan.specs.declared.described.Guest.{Guest}
 use Rattle.domain_plan.specs.declared.giving.Given.{Given}
-use Rattle.dl_base.specs.declared.item.Described.{Described}
-use Rattle.dl_base.specs.Sound.{IsSound}
+use Rattle.described.specs.declared.item.Described.{Described}
+use Rattle.described.specs.Sound.{IsSound}
 use Rattle.domain_plan.specs.PrivateLaying.{total, AreLowFrames, AreApart, AreLowRanges}
 use Rattle.domain_plan.specs.Entries.{of_guest, is_read}
 use Rattle.domain_plan.specs.Taken.{Passed, all_passed}

@@ -1,11 +1,11 @@
 -- For proofs and private contracts alone: what the code that gathers a guest's ranges asks and gives.
-use Rattle.dl_base.specs.Maps.{target_of, holds_page}
+use Rattle.described.specs.Maps.{target_of, holds_page}
 use Rattle.std.specs.Prelude.{◌≡◌, true, None, ℕ, ◌+◌, ◌/◌, ◌^◌, ◌<◌, ◌≤◌, List, [], ◌∷◌}
-use Rattle.dl_base.specs.declared.ranges.FrameRange.{FrameRange}
-use Rattle.dl_base.specs.declared.ranges.Kind.TheVariants.{Ram, Device}
-use Rattle.dl_base.specs.declared.ranges.MapRange.{MapRange}
-use Rattle.dl_base.specs.declared.item.What.{What}
-use Rattle.dl_base.specs.declared.item.What.TheVariants as whats
+use Rattle.texts.specs.declared.ranges.FrameRange.{FrameRange}
+use Rattle.described.specs.declared.map_range.Kind.TheVariants.{Ram, Device}
+use Rattle.described.specs.declared.map_range.MapRange.{MapRange}
+use Rattle.described.specs.declared.item.What.{What}
+use Rattle.described.specs.declared.item.What.TheVariants as whats
 use Rattle.domain_plan.specs.GuestMaps.{onto, region_maps}
 
 -- how many pages several ranges have

@@ -1,11 +1,11 @@
 -- For proofs and private contracts alone: what the state of the loop over the items stands for.
 use Rattle.std.specs.Prelude.{◌≡◌, ℕ, ◌==◌, Bool, false, ◌+◌, if◌then◌else◌, List, [], ◌∷◌, ◌++◌, ◌||◌, ◌&&◌, not, nat_le, option_map, find, bytes_eq, is_some, length, map, flat_map, Option, Some, None, Result, Ok, Err}
 use Rattle.std.specs.List.{list_any}
-use Rattle.dl_base.specs.declared.ranges.BaseSize.{BaseSize}
-use Rattle.dl_base.specs.declared.ranges.FrameRange.{FrameRange}
-use Rattle.dl_base.specs.declared.item.Described.{Described}
-use Rattle.dl_base.specs.declared.item.What.{What}
-use Rattle.dl_base.specs.declared.item.What.TheVariants as whats
+use Rattle.texts.specs.declared.ranges.BaseSize.{BaseSize}
+use Rattle.texts.specs.declared.ranges.FrameRange.{FrameRange}
+use Rattle.described.specs.declared.item.Described.{Described}
+use Rattle.described.specs.declared.item.What.{What}
+use Rattle.described.specs.declared.item.What.TheVariants as whats
 use Rattle.domain_bindings.specs.declared.host.Host.{Host}
 use Rattle.domain_plan.specs.declared.state.Owner.{Owner}
 use Rattle.domain_plan.specs.declared.state.State.{State}
@@ -14,13 +14,13 @@ use Rattle.domain_plan.specs.declared.state.Triple.{Triple}
 use Rattle.domain_plan.specs.declared.state.Region.{Region}
 use Rattle.domain_plan.specs.declared.state.Taker.{Taker}
 use Rattle.domain_plan.specs.declared.reasons.Takes.{Takes}
-use Rattle.dl_base.specs.declared.why.Why.{Why}
-use Rattle.dl_base.specs.declared.why.Why.TheVariants as whys
-use Rattle.dl_base.specs.declared.item.Item.{Item}
+use Rattle.described.specs.declared.why.Why.{Why}
+use Rattle.described.specs.declared.why.Why.TheVariants as whys
+use Rattle.described.specs.declared.item.Item.{Item}
 use Rattle.domain_plan.specs.declared.planned.PlanFault.{PlanFault}
 use Rattle.domain_plan.specs.declared.planned.PlanFault.TheVariants as faults
 use Rattle.domain_plan.specs.Refusals.{first_refused}
-use Rattle.dl_base.specs.Reasons.{where_so}
+use Rattle.described.specs.Reasons.{where_so}
 use Rattle.domain_plan.specs.Reasons.{naming_first, layout, area_pages, layout_at, unlike, is_owner, is_past_spis, has_console, is_irq}
 use Rattle.domain_plan.specs.Entries.{Entry}
 use Rattle.frame_ranges.specs.Ranges.{cut, lie_in, have_common}

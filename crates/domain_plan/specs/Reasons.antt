@@ -1,17 +1,17 @@
 -- The reasons against an item that need the host's memory or the items before it, one by one.
 use Rattle.std.specs.Prelude.{ℕ, ◌==◌, ◌&&◌, nat_le, bytes_eq, not, is_some, is_none, Bool, true, false, if◌then◌else◌, List, [], ◌∷◌, find, map, Option, Some, None, option_map}
 use Rattle.std.specs.List.{list_any}
-use Rattle.dl_base.specs.declared.ranges.FrameRange.{FrameRange}
-use Rattle.dl_base.specs.declared.item.Item.{Item}
-use Rattle.dl_base.specs.declared.item.Part.TheVariants as parts
-use Rattle.dl_base.specs.declared.item.ModuleKind.{ModuleKind}
-use Rattle.dl_base.specs.declared.item.ModuleKind.TheVariants.{DeviceTree}
-use Rattle.dl_base.specs.declared.item.What.{What}
-use Rattle.dl_base.specs.declared.item.What.TheVariants as whats
-use Rattle.dl_base.specs.declared.why.Why.{Why}
-use Rattle.dl_base.specs.declared.why.Why.TheVariants as whys
-use Rattle.dl_base.specs.declared.layout.Layout.{Layout}
-use Rattle.dl_base.specs.Reasons.{where_so}
+use Rattle.texts.specs.declared.ranges.FrameRange.{FrameRange}
+use Rattle.described.specs.declared.item.Item.{Item}
+use Rattle.described.specs.declared.item.Part.TheVariants as parts
+use Rattle.described.specs.declared.item.ModuleKind.{ModuleKind}
+use Rattle.described.specs.declared.item.ModuleKind.TheVariants.{DeviceTree}
+use Rattle.described.specs.declared.item.What.{What}
+use Rattle.described.specs.declared.item.What.TheVariants as whats
+use Rattle.described.specs.declared.why.Why.{Why}
+use Rattle.described.specs.declared.why.Why.TheVariants as whys
+use Rattle.described.specs.declared.layout.Layout.{Layout}
+use Rattle.described.specs.Reasons.{where_so}
 use Rattle.domain_bindings.specs.declared.host.Host.{Host}
 use Rattle.frame_ranges.specs.Ranges.{touched, lie_in, have_common}
 use Rattle.domain_plan.specs.Taken.{Passed, item_of, what_of, belongs_to, is_direct}

@@ -1,12 +1,12 @@
 -- The runs of frames that shared regions without a host address draw, and where they place these regions.
 use Rattle.std.specs.Prelude.{ℕ, ◌*◌, ◌/◌, bytes_eq, Bool, if◌then◌else◌, List, [], ◌∷◌, ◌++◌, map, find, length, option_map, Option, Some, None, Result, Ok, Err}
 use Rattle.std.specs.List.{list_any}
-use Rattle.dl_base.specs.declared.item.Described.{Described}
-use Rattle.dl_base.specs.declared.item.Item.{Item}
-use Rattle.dl_base.specs.declared.item.Part.TheVariants as parts
-use Rattle.dl_base.specs.declared.item.What.{What}
-use Rattle.dl_base.specs.declared.item.What.TheVariants as whats
-use Rattle.dl_base.specs.declared.why.Why.TheVariants.{NoRam}
+use Rattle.described.specs.declared.item.Described.{Described}
+use Rattle.described.specs.declared.item.Item.{Item}
+use Rattle.described.specs.declared.item.Part.TheVariants as parts
+use Rattle.described.specs.declared.item.What.{What}
+use Rattle.described.specs.declared.item.What.TheVariants as whats
+use Rattle.described.specs.declared.why.Why.TheVariants.{NoRam}
 use Rattle.frame_alloc.specs.Frames.{lowest_run, without}
 use Rattle.domain_plan.specs.Entries.{Entry}
 use Rattle.domain_plan.specs.Taken.{Passed, item_of, what_of}

@@ -12,9 +12,10 @@ use crate::described::{Guest, PartialState};
 use crate::passing::check_items;
 use crate::planned::PlanFault;
 use crate::state::{Owner, State};
-use dl_base::{BaseSize, Bytes, Described, Item, List, Loaded, Part, What, Why};
+use described::{Described, Item, Loaded, Part, What, Why};
 use domain_bindings::Host;
 use std::alloc::{AllocError, Global};
+use texts::{BaseSize, Bytes, List};
 
 /// Where loaded files may end.
 const ADDRESS_LIMIT: u128 = 1 << 40;

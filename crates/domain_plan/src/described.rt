@@ -1,7 +1,8 @@
 // What the plan is made from: the guests with their partial trees and links.
-use dl_base::{Described, List};
+use described::Described;
 use domain_bindings::Domain;
 use passthrough_dtb::Partial;
+use texts::List;
 
 /// The partial device tree of a guest, which describes the devices that are passed through to it.
 #[derive(Debug, Drop)]

@@ -1,6 +1,6 @@
 // Drawing memory from the free frames.
 ghost use Rattle.std.specs.Prelude.{◌≡◌, ℕ, List, None, Some, map, length, Ok, Err, IfOk, IfErr, IfSome, All, ◌+◌, ◌^◌, ◌≤◌};
-ghost use Rattle.dl_base.specs.declared.why.Why.TheVariants as whys;
+ghost use Rattle.described.specs.declared.why.Why.TheVariants as whys;
 ghost use Rattle.frame_alloc.specs.Frames.{lowest_chunk, lowest_frame, AreFrameRanges};
 ghost use Rattle.domain_plan.specs.Taken.{Passed};
 ghost use Rattle.domain_plan.specs.PrivateStanding.{taken_from, claims_taken};
@@ -9,10 +9,11 @@ ghost use Rattle.domain_plan.specs.Draws.{Drawn, Heaps, groups_drawn, drawn, hea
 use crate::described::Guest;
 use crate::planned::PlanFault;
 use crate::state::Taken;
-use dl_base::{Bytes, FrameRange, Item, List, Part, Why};
+use described::{Item, Part, Why};
 use frame_alloc::{FramePool, PoolFault};
 use frame_ranges::frames_left;
 use std::alloc::{AllocError, Global};
+use texts::{Bytes, FrameRange, List};
 
 /// Takes so many chunks, each the lowest; None where one is missing.
 fn draw_chunks(

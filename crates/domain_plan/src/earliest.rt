@@ -6,7 +6,8 @@ ghost use Rattle.domain_plan.specs.PrivateStanding.{Stands, claims_taken, pages_
 
 use crate::state::State;
 use crate::takings::Takings;
-use dl_base::{FrameRange, Item};
+use described::Item;
+use texts::FrameRange;
 
 /// The first item that takes something of these ranges.
 fn first_item<'a>(items: &'a [Item], taken: &Takings, ranges: &[FrameRange]) -> Option<&'a Item>

@@ -1,6 +1,6 @@
 // What the items of a guest give it.
 ghost use Rattle.std.specs.Prelude.{◌≡◌, ℕ, ◌+◌, ◌^◌, ◌≤◌, ◌<◌, List, [], ◌∷◌, ◌++◌, map, All, Option, None, Some, unwrap_or, IfOk, OnOk};
-ghost use Rattle.dl_base.specs.Sound.{IsSound};
+ghost use Rattle.described.specs.Sound.{IsSound};
 ghost use Rattle.domain_plan.specs.Entries.{of_guest, is_read, items_of};
 ghost use Rattle.domain_plan.specs.Taken.{Passed, passing, all_passed};
 ghost use Rattle.domain_plan.specs.GuestMaps.{onto, laid};
@@ -16,10 +16,11 @@ use crate::passing::takes_of;
 use crate::runs::{Run, placed_item};
 use crate::state::{Owner, State};
 use crate::takes::BANK_SIZE;
-use dl_base::{Bytes, Described, FrameRange, Kind, List, MapRange, What};
+use described::{Described, Kind, MapRange, What};
 use frame_ranges::{touched, touched_from};
 use std::alloc::{AllocError, Global};
 use std::cmp::min;
+use texts::{Bytes, FrameRange, List};
 
 /// What the items of a guest that were passed give it.
 #[derive(Drop)]

@@ -1,9 +1,9 @@
 // The plan of one guest.
 ghost use Rattle.std.specs.Prelude.{◌≡◌, ◌==◌, ◌+◌, ◌^◌, ◌≤◌, ◌++◌, ◌∷◌, if◌then◌else◌, OnOk, ℕ, List, [], map, filter, All, Option, IfOk};
 ghost use Rattle.std.specs.List.{list_any};
-ghost use Rattle.dl_base.specs.Consecutive.{numbers};
-ghost use Rattle.dl_base.specs.Maps.{AreMapRanges};
-ghost use Rattle.dl_base.specs.Sound.{IsSound};
+ghost use Rattle.texts.specs.Consecutive.{numbers};
+ghost use Rattle.described.specs.Maps.{AreMapRanges};
+ghost use Rattle.described.specs.Sound.{IsSound};
 ghost use Rattle.domain_plan.specs.Entries.{of_guest, is_read, items_of};
 ghost use Rattle.domain_plan.specs.Taken.{all_passed};
 ghost use Rattle.domain_plan.specs.GuestMaps.{guest_ranges};
@@ -19,10 +19,10 @@ use crate::ordering::{in_order, joined_ranges};
 use crate::planned::GuestPlan;
 use crate::runs::Run;
 use crate::takes::BANK_SIZE;
-use dl_base::{Bytes, FrameRange, List};
 use domain_bindings::Host;
 use std::alloc::{AllocError, Global};
 use std::cmp::min;
+use texts::{Bytes, FrameRange, List};
 
 /// Whether a number is among the interrupts.
 fn is_among(irqs: &[u32], spi: u32) -> bool

@@ -1,14 +1,14 @@
 // The reasons against an interrupt.
 ghost use Rattle.std.specs.Prelude.{◌≡◌, ℕ, ◌==◌, ◌&&◌, if◌then◌else◌, List, Option, None, IfOk, option_map};
 ghost use Rattle.std.specs.List.{list_any};
-ghost use Rattle.dl_base.specs.declared.why.Why.TheVariants as whys;
+ghost use Rattle.described.specs.declared.why.Why.TheVariants as whys;
 ghost use Rattle.domain_plan.specs.Taken.{Passed, belongs_to, what_of};
 ghost use Rattle.domain_plan.specs.Reasons.{naming_first, is_past_spis, has_console, is_irq};
 ghost use Rattle.domain_plan.specs.PrivateStanding.{Stands, is_past, is_other, first_other, is_of_other, item_where, irq_reasons};
 
 use crate::regions::is_guest;
 use crate::state::{Owner, State, Taker};
-use dl_base::{Item, Why};
+use described::{Item, Why};
 use std::alloc::{AllocError, Global};
 
 /// Whether a guest has an interrupt of this number.

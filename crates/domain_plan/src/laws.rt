@@ -4,8 +4,9 @@ ghost use Rattle.domain_plan.specs.Apart.{GuestsAreApart};
 ghost use Rattle.domain_plan.specs.Memories.{MemoryIsMapped};
 
 use crate::described::Guest;
-use dl_base::{List, Loaded};
+use described::Loaded;
 use domain_bindings::Host;
+use texts::List;
 
 /// Where no item of a description is refused, a guest's pages are each mapped once; a frame of the maps of two guests is
 /// shared in both, in a region that both name by one id; and no frame that is left for tables is in any map.

@@ -1,7 +1,7 @@
 // Where the devices that Xen makes stand in a guest.
 ghost use Rattle.std.specs.Prelude.{◌≡◌, ℕ, nat_le, List, Option};
 ghost use Rattle.std.specs.Option.{option_map_or};
-ghost use Rattle.dl_base.specs.Layouts.{usual_layout};
+ghost use Rattle.described.specs.Layouts.{usual_layout};
 ghost use Rattle.domain_bindings.specs.HostDevices.{as_range};
 ghost use Rattle.domain_bindings.specs.Reasons.{end_of};
 ghost use Rattle.domain_plan.specs.Taken.{Passed};
@@ -10,8 +10,9 @@ ghost use Rattle.domain_plan.specs.Layouts.{are_apart, console_area, has_areas_a
 ghost use Rattle.domain_plan.specs.PrivateStanding.{Stands};
 
 use crate::state::State;
-use dl_base::{BaseSize, Layout, usual_layout};
+use described::{Layout, usual_layout};
 use domain_bindings::Host;
+use texts::BaseSize;
 
 /// How many bytes of a console's registers are taken: one page.
 const CONSOLE_SIZE: u64 = 0x1000;

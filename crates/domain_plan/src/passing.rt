@@ -14,11 +14,12 @@ use crate::reasons::Takes;
 use crate::state::{Owner, Region, State, Taken, Taker, Triple};
 use crate::takes::has_triple;
 use crate::takings::Takings;
-use dl_base::{BaseSize, Bytes, Described, FrameRange, Item, What, Why};
+use described::{Described, Item, What, Why};
 use domain_bindings::Host;
 use frame_ranges::touched;
 use std::alloc::{AllocError, Global};
 use std::cmp::min;
+use texts::{BaseSize, Bytes, FrameRange};
 
 /// The most pages that are counted.
 const PAGE_LIMIT: u64 = 1 << 28;

@@ -1,6 +1,7 @@
 // What a plan says.
-use dl_base::{Bytes, Item, Layout, List, MapRange, Why};
+use described::{Item, Layout, MapRange, Why};
 use frame_alloc::FramePool;
+use texts::{Bytes, List};
 
 /// What a guest is to be given. A page is 4,096 bytes of the guest's address space, and a frame a host page, each named
 /// by its address divided by 4,096.

@@ -15,9 +15,10 @@ use crate::draws::{draw_for_guests, free_pool};
 use crate::guest_plan::guest_plan;
 use crate::planned::{GuestPlan, Plan, PlanFault};
 use crate::runs::{Run, draw_for_regions};
-use dl_base::{FrameRange, List, Loaded};
+use described::Loaded;
 use domain_bindings::Host;
 use std::alloc::{AllocError, Global};
+use texts::{FrameRange, List};
 
 /// What every guest is to be given, by its items and by what it drew.
 fn guest_plans(

@@ -1,20 +1,21 @@
 // The reasons against an item that need the host's memory or the items before it.
 ghost use Rattle.std.specs.Prelude.{◌≡◌, ℕ, ◌+◌, ◌^◌, ◌≤◌, List, [], ◌∷◌, All, Option, IfOk, ◌&&◌, not, is_some};
 ghost use Rattle.std.specs.Option.{option_or};
-ghost use Rattle.dl_base.specs.declared.why.Why.TheVariants as whys;
+ghost use Rattle.described.specs.declared.why.Why.TheVariants as whys;
 ghost use Rattle.frame_alloc.specs.Frames.{AreFrameRanges};
 ghost use Rattle.frame_ranges.specs.Ranges.{have_common, lie_in, touched};
 ghost use Rattle.domain_plan.specs.Taken.{Passed};
-ghost use Rattle.dl_base.specs.Reasons.{where_so};
+ghost use Rattle.described.specs.Reasons.{where_so};
 ghost use Rattle.domain_plan.specs.Reasons.{naming_first, layout, layout_at, area_pages, is_device_tree};
 ghost use Rattle.domain_plan.specs.Refusals.{cross_reasons, first_there};
 ghost use Rattle.domain_plan.specs.PrivateStanding.{Stands, claims_taken, pages_taken, entry_of, mine_of, overlap_in};
 
 use crate::state::{Owner, State};
-use dl_base::{BaseSize, Bytes, Described, FrameRange, Item, Layout, ModuleKind, Part, What, Why};
+use described::{Described, Item, Layout, ModuleKind, Part, What, Why};
 use domain_bindings::Host;
 use frame_ranges::{lies_in, meets_any, touched};
 use std::alloc::{AllocError, Global};
+use texts::{BaseSize, Bytes, FrameRange};
 
 /// The frames and pages that an item takes.
 #[derive(Drop)]

@@ -1,22 +1,23 @@
 // The reasons against a region of shared memory.
 ghost use Rattle.std.specs.Prelude.{◌≡◌, ℕ, ◌==◌, ◌&&◌, ◌+◌, ◌^◌, ◌≤◌, not, if◌then◌else◌, All, List, [], ◌∷◌, Option, Some, None, IfOk, find, option_map, option_and_then, slice_get, false};
 ghost use Rattle.std.specs.Option.{option_or};
-ghost use Rattle.dl_base.specs.declared.why.Why.TheVariants as whys;
+ghost use Rattle.described.specs.declared.why.Why.TheVariants as whys;
 ghost use Rattle.frame_alloc.specs.Frames.{AreFrameRanges};
-ghost use Rattle.dl_base.specs.declared.item.What.TheVariants as whats;
+ghost use Rattle.described.specs.declared.item.What.TheVariants as whats;
 ghost use Rattle.frame_ranges.specs.Ranges.{have_common};
 ghost use Rattle.domain_plan.specs.Taken.{Passed, belongs_to, item_of, what_of};
-ghost use Rattle.dl_base.specs.Reasons.{where_so};
+ghost use Rattle.described.specs.Reasons.{where_so};
 ghost use Rattle.domain_plan.specs.Reasons.{naming_first, is_owner, is_same_host, unlike};
 ghost use Rattle.domain_plan.specs.PrivateStanding.{Stands, claims_taken, is_guest, is_region, is_sought, is_region_at, naming_reasons, landing_reasons};
 
 use crate::reasons::{Takes, lie_in};
 use crate::state::{Owner, Region, State, Taken};
 use crate::takings::Takings;
-use dl_base::{FrameRange, Item, Why};
+use described::{Item, Why};
 use domain_bindings::Host;
 use frame_ranges::meets_any;
 use std::alloc::{AllocError, Global};
+use texts::FrameRange;
 
 /// Whether the second guest is the first.
 pub(crate) fn is_guest(one: Option<u64>, other: Option<u64>) -> bool

@@ -1,15 +1,16 @@
 // The runs of frames that shared regions without a host address draw.
 ghost use Rattle.std.specs.Prelude.{◌≡◌, ◌+◌, ◌*◌, ◌/◌, ◌<◌, List, [], ◌∷◌, ◌++◌, All, None, Ok, Err, IfOk, OnOk, IfErr, IfSome};
-ghost use Rattle.dl_base.specs.declared.why.Why.TheVariants as whys;
+ghost use Rattle.described.specs.declared.why.Why.TheVariants as whys;
 ghost use Rattle.frame_alloc.specs.Frames.{lowest_run, without};
 ghost use Rattle.domain_plan.specs.Regions.{region_item, runs_drawn, host_in, placed_item};
 ghost use Rattle.domain_plan.specs.PrivateRuns.{has_id, is_run_of, is_requested, request_of, asked, requests_in};
 
 use crate::planned::PlanFault;
 use crate::state::Region;
-use dl_base::{Bytes, Described, Item, List, Part, What, Why};
+use described::{Described, Item, Part, What, Why};
 use frame_alloc::{FramePool, PoolFault};
 use std::alloc::{AllocError, Global};
+use texts::{Bytes, List};
 
 /// The run of frames that was drawn for the shared regions of an id.
 #[derive(Debug, Drop)]

@@ -6,10 +6,11 @@ ghost use Rattle.domain_plan.specs.Taken.{Passed, is_loaded, is_repeated, bank_p
 ghost use Rattle.domain_plan.specs.PrivateStanding.{Stands, entry_of, has_triple};
 
 use crate::state::{Owner, State, Triple};
-use dl_base::{BaseSize, Described, FrameRange, What};
+use described::{Described, What};
 use frame_ranges::{touched, touched_from};
 use std::alloc::{AllocError, Global};
 use std::cmp::min;
+use texts::{BaseSize, FrameRange};
 
 /// How many pages the first bank of a guest's memory has: addresses 0x40000000 to 0xffffffff.
 pub(crate) const BANK_SIZE: u64 = 786_432;

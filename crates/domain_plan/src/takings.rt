@@ -4,11 +4,11 @@ ghost use Rattle.frame_ranges.specs.Ranges.{have_common, holds};
 ghost use Rattle.domain_plan.specs.PrivateTakings.{Has, IsCovered, AreRisingPast, AreRising, AreClear};
 
 use crate::state::Taken;
-use dl_base::FrameRange;
 use frame_ranges::meets_any;
 use std::alloc::{AllocError, Global};
 use std::collections::BTreeMap;
 use std::marker::Model;
+use texts::FrameRange;
 
 /// What items take, in their order. That ranges have nothing of it is told in the time of a search in a sorted list; the
 /// first item that takes something of them is found by looking at each.

@@ -3,8 +3,8 @@ ghost use Rattle.std.specs.Prelude.{◌≡◌, ◌++◌, OnOk, IfOk};
 ghost use Rattle.fdt_canonical.specs.Shown.{refusal_text, refusal_line};
 
 use crate::refusal::Refusal;
-use dl_base::Bytes;
 use std::alloc::{AllocError, Global};
+use texts::Bytes;
 
 fn append_text(alloc: Global, line: &mut Bytes, refusal: &Refusal) -> Result<(), AllocError>
     ensures { OnOk result (line.new ≡ line.old ++ refusal_text refusal.now) }

@@ -1,6 +1,6 @@
 -- The listing of a device tree as text.
 use Rattle.std.specs.Prelude.{◌==◌, List, [], ◌∷◌, ◌++◌, if◌then◌else◌, length, flat_map, codes}
-use Rattle.dl_base.specs.NumberTexts.{hexadecimal}
+use Rattle.texts.specs.NumberTexts.{hexadecimal}
 use Rattle.fdt_tree.specs.Tree.{Bytes, Property, Trees, none, tree, Tree}
 use Rattle.fdt_tree.specs.declared.reserve.Reserve.{Reserve}
 use Rattle.hex.specs.Hex.{encode_lower}

@@ -2,9 +2,9 @@
 ghost use Rattle.std.specs.Prelude.{◌≡◌, ◌++◌, OnOk};
 ghost use Rattle.fdt_listing.specs.Listing.{line, reserve_line, value_text, property_line};
 
-use dl_base::Bytes;
 use fdt_tree::Reserve;
 use std::alloc::{AllocError, Global};
+use texts::Bytes;
 
 /// Adds a text as a line.
 pub(crate) fn append_line(out: &mut Bytes, text: &[u8]) -> Result<(), AllocError>

@@ -6,10 +6,10 @@ ghost use Rattle.fdt_listing.specs.PrivateOpened.{opened_after, token_line};
 
 use crate::lines::{append_line, append_property, append_reserve};
 use crate::opened::OpenNodes;
-use dl_base::Bytes;
 use fdt_tree::{Reserve, Tree};
 use fdt_write::{TreeToken, TreeTokens};
 use std::alloc::{AllocError, Global};
+use texts::Bytes;
 
 /// Adds the lines of reservations.
 fn append_reserves(alloc: Global, out: &mut Bytes, reserves: &[Reserve]) -> Result<(), AllocError>

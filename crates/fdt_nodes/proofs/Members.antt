@@ -4,7 +4,7 @@ use Rattle.std.specs.Prelude.{IsSome}
 use Rattle.std.specs.List.{list_any}
 use Rattle.std.proofs.lemmas.Bool.Decides.{nat_tests}
 use Rattle.std.proofs.lemmas.List.Elements.{All-head, All-tail}
-use Rattle.dl_base.proofs.Ascending.{IsMember}
+use Rattle.texts.proofs.Ascending.{IsMember}
 use Rattle.fdt_tree.specs.Tree.{Trees, none, tree, Tree, Place, at, at_in}
 use Rattle.fdt_tree.specs.Document.{Document, IsNumbering, place_of}
 use Rattle.fdt_nodes.specs.Nodes.{Node, root_of, child, nodes_from, nodes_of, node_at}

@@ -1,7 +1,7 @@
 -- The items that nodes describe.
 use Rattle.std.specs.Prelude.{ℕ}
-use Rattle.dl_base.specs.declared.item.Item.{Item}
-use Rattle.dl_base.specs.declared.item.Part.{Part}
+use Rattle.described.specs.declared.item.Item.{Item}
+use Rattle.described.specs.declared.item.Part.{Part}
 use Rattle.fdt_nodes.specs.Nodes.{Node, shown}
 
 -- the item of a node: its part, its path, and its number among those of its node

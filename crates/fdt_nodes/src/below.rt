@@ -3,9 +3,9 @@ ghost use Rattle.std.specs.Prelude.{◌≡◌, ◌<◌, ◌++◌, All, OnOk, len
 ghost use Rattle.fdt_nodes.specs.Nodes.{children, descendants, nodes_of, node_found};
 ghost use Rattle.fdt_nodes.specs.Held.{node_of, Are};
 
-use dl_base::List;
 use fdt_tree::{NodeId, Tree, Walk};
 use std::alloc::{AllocError, Global};
+use texts::List;
 
 /// The children of a node, in order.
 pub fn children(alloc: Global, tree: &Tree, node: NodeId) -> Result<List<NodeId>, AllocError>

@@ -2,9 +2,9 @@
 ghost use Rattle.std.specs.Prelude.{◌≡◌, ◌⊎◌, ◌≤◌, ◌+◌, ◌*◌, length, IfErr, IfOk, IsTrue, OnOk, true, false};
 ghost use Rattle.fdt_nodes.specs.Entries.{after_cells, device_window, device_windows, first_number, is_whole, region, region_cells, regions, shared_window, shared_windows, window_cells};
 
-use dl_base::{BaseSize, List};
 use fdt_tree::{u32_of, u64_of};
 use std::alloc::{AllocError, Global};
+use texts::{BaseSize, List};
 
 /// A range of host addresses that a guest sees at addresses of its own.
 #[derive(Clone, Copy, Debug, PartialEq, Eq, PartialOrd, Ord, Hash)]

@@ -4,9 +4,10 @@ ghost use Rattle.fdt_nodes.specs.Nodes.{shown};
 ghost use Rattle.fdt_nodes.specs.Held.{node_of};
 ghost use Rattle.fdt_nodes.specs.NodeItems.{item_of};
 
-use dl_base::{Bytes, Item, Part};
+use described::{Item, Part};
 use fdt_tree::{NodeId, Tree};
 use std::alloc::{AllocError, Global};
+use texts::Bytes;
 
 // Adds the path of a node: nothing for the root, and for others that of the node above, `/`, and the name.
 fn append_path(tree: &Tree, node: NodeId, path: &mut Bytes) -> Result<(), AllocError>

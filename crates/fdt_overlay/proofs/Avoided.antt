@@ -1,8 +1,8 @@
 -- Overlays call for no audit: neither reading and applying them nor the length of what they make refuses because images differ.
 use Rattle.std.proofs.Common.{◌≡◌, ℕ, List, [], ◌∷◌, inl, inr}
 use Rattle.std.specs.Prelude.{Option, Result, Ok, Err}
-use Rattle.dl_base.specs.Outside.{File}
-use Rattle.dl_base.specs.declared.status.Status.TheVariants as statuses
+use Rattle.outside.specs.Outside.{File}
+use Rattle.outside.specs.declared.status.Status.TheVariants as statuses
 use Rattle.fdt_tree.specs.Tree.{Tree}
 use Rattle.run_steps.specs.Endings.{Refuses}
 use Rattle.run_steps.specs.Steps.{IsRefusal, OnResult}

@@ -1,9 +1,9 @@
 -- A run that ends as its words and files call for answers exactly that.
 use Rattle.std.proofs.Common.{◌≡◌, sym, subst, ℕ, List, Some, None, inl, inr}
 use Rattle.std.specs.Prelude.{◌⊎◌, Option, Result, Err, IfSome, IfErr}
-use Rattle.dl_base.specs.Outside.{File, Rose}
-use Rattle.dl_base.specs.declared.status.Status.{Status}
-use Rattle.dl_base.specs.declared.status.Status.TheVariants as statuses
+use Rattle.outside.specs.Outside.{File, Rose}
+use Rattle.outside.specs.declared.status.Status.{Status}
+use Rattle.outside.specs.declared.status.Status.TheVariants as statuses
 use Rattle.run_steps.specs.Endings.{Outcome, Refuses, Builds}
 use Rattle.run_steps.specs.Laws.{Agree, Answers, AnswersUnless}
 use Rattle.run_steps.specs.Stops.{Counts, IsReadFailure, IsCause, IsDue}

@@ -1,7 +1,7 @@
 -- The words and files that tell what they hold call for one outcome.
 use Rattle.std.proofs.Common.{◌≤◌, ◌<◌, ℕ, List, [], ◌∷◌, Option, Some, None, inl, inr, arith}
-use Rattle.dl_base.specs.Outside.{File}
-use Rattle.dl_base.specs.declared.status.Status.TheVariants as statuses
+use Rattle.outside.specs.Outside.{File}
+use Rattle.outside.specs.declared.status.Status.TheVariants as statuses
 use Rattle.fdt_tree.specs.Tree.{Tree}
 use Rattle.run_steps.specs.Laws.{IsDetermined}
 use Rattle.run_steps.specs.Steps.{IsRefusal}

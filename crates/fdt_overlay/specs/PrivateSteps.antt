@@ -1,6 +1,6 @@
 -- Only private contracts and proofs use this file: what reading and applying overlays gives.
 use Rattle.std.specs.Prelude.{◌≡◌, ℕ, List, [], ◌∷◌, Option, Ok}
-use Rattle.dl_base.specs.Outside.{File}
+use Rattle.outside.specs.Outside.{File}
 use Rattle.fdt_tree.specs.Tree.{Tree}
 use Rattle.fdt_read.specs.declared.flat.Flat.{Flat}
 use Rattle.run_steps.specs.Trees.{FlatTree, IsTreeFile}

@@ -2,8 +2,8 @@
 ghost use Rattle.std.specs.Prelude.{◌≡◌};
 ghost use Rattle.fdt_overlay.specs.declared.fault.OverlayFault.TheVariants.{Memory};
 
-use dl_base::Bytes;
 use std::alloc::AllocError;
+use texts::Bytes;
 
 /// The first fault of an overlay over a base. The paths and names are those of the overlay.
 #[derive(Debug, Drop)]

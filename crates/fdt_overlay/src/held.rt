@@ -1,8 +1,8 @@
 // Names and paths as a refusal holds them.
 ghost use Rattle.std.specs.Prelude.{◌≡◌, IfOk};
 
-use dl_base::Bytes;
 use std::alloc::{AllocError, Global};
+use texts::Bytes;
 
 /// Bytes of a tree as bytes of their own.
 pub(crate) fn held(alloc: Global, bytes: &[u8]) -> Result<Bytes, AllocError>

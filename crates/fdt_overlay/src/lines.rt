@@ -3,9 +3,9 @@ ghost use Rattle.std.specs.Prelude.{◌≡◌, ◌-◌, ◌^◌, ◌++◌, min, 
 ghost use Rattle.fdt_overlay.specs.Lines.{fault_text, fault_message, too_long_message};
 
 use crate::fault::OverlayFault;
-use dl_base::Bytes;
 use run_steps::make_file_message;
 use std::alloc::{AllocError, Global};
+use texts::Bytes;
 
 /// Adds the name of a fault, and what it is about.
 fn append_named(text: &mut Bytes, name: &[u8], about: &Bytes) -> Result<(), AllocError>

@@ -1,7 +1,7 @@
 // The report of a run that has none.
 ghost use Rattle.std.specs.Prelude.{None, Some};
 
-use dl_base::{Failed, Sink};
+use outside::{Failed, Sink};
 
 /// A stream that has room for no byte, for a run that puts nothing on it.
 #[derive(Clone, Copy, Debug)]

@@ -16,12 +16,13 @@ use crate::applied::apply;
 use crate::fault::OverlayFault;
 use crate::lines::{make_fault_message, make_too_long_message};
 use crate::words::Asked;
-use dl_base::{Bytes, Files, List, Status, Text};
 use fdt_read::Flat;
 use fdt_tree::Tree;
 use fdt_write::{WriteFault, write};
+use outside::{Files, Status};
 use run_steps::{Build, Output, Stop, read_tree};
 use std::alloc::{AllocError, Global};
+use texts::{Bytes, List, Text};
 
 /// A tree with the overlay of a file applied.
 fn apply_tree(alloc: Global, name: &str, base: &Tree, overlay: &Tree) -> Result<Tree, Stop>

@@ -4,8 +4,8 @@ ghost use Rattle.fdt_overlay.specs.Resolve.{Spot, spot_of, decimal_of, with_spot
 
 use crate::digits::decimal_of;
 use crate::word_values::{ValueFault, word_of};
-use dl_base::cut;
 use indexed_tree::IndexedTree;
+use texts::cut;
 
 /// The path, the name and the digits of a string `PATH:PROP:OFFSET`, where it has just two colons and no part is empty.
 fn parts(string: &[u8]) -> Option<(&[u8], &[u8], &[u8])>

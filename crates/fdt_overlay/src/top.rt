@@ -1,6 +1,6 @@
 // The top call.
 ghost use Rattle.std.specs.Prelude.{◌≡◌, ◌≢◌, ◌⊎◌, ◌↔◌, ◌∷◌, [], IsNone, IfSome, Some, map, string_bytes, codes};
-ghost use Rattle.dl_base.specs.Outside.{Rose};
+ghost use Rattle.outside.specs.Outside.{Rose};
 ghost use Rattle.run_steps.specs.Messages.{memory_message, file_message};
 ghost use Rattle.run_steps.specs.Endings.{Refuses, Builds, Said, and_files, TookUpTo, TakesFiles};
 ghost use Rattle.run_steps.specs.Laws.{AnswersUnless};
@@ -12,7 +12,7 @@ ghost use Rattle.fdt_overlay.specs.Job.{bytes_of, IsJob, CallsFor};
 use crate::no_report::NoReport;
 use crate::prepare::prepare;
 use crate::words::read_words;
-use dl_base::{Files, Outs, Sink, Status};
+use outside::{Files, Outs, Sink, Status};
 use run_steps::{Stop, say, write_all};
 use std::alloc::Global;
 

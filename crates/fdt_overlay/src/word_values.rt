@@ -6,10 +6,10 @@ ghost use Rattle.indexed_tree.specs.Words.{with_word};
 ghost use Rattle.fdt_overlay.specs.Words.{moved, word_at, with_moved, with_all_moved};
 ghost use Rattle.fdt_overlay.specs.declared.word_values.ValueFault.TheVariants.{Memory};
 
-use dl_base::Bytes;
 use fdt_tree::u32_of;
 use indexed_tree::{IndexedNode, IndexedTree};
 use std::alloc::{AllocError, Global};
+use texts::Bytes;
 
 /// The greatest phandle that there is.
 const LAST_PHANDLE: u32 = 0xffff_fffe;

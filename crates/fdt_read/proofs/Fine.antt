@@ -6,7 +6,7 @@ use Rattle.fdt_read.specs.declared.fault.FdtFault.{FdtFault}
 use Rattle.fdt_read.specs.declared.fault.FdtFault.TheVariants.{Token as BadToken, Name, Order}
 use Rattle.fdt_read.specs.Tokens.{begin_node, end_node, property, end}
 use Rattle.fdt_read.specs.Spelling.{is_name}
-use Rattle.dl_base.specs.Rows.{first_that_applies}
+use Rattle.texts.specs.Rows.{first_that_applies}
 use Rattle.fdt_read.specs.Refusals.{is_misplaced, is_misnamed, rows_at}
 
 row_fine : (a : Bool) (f : FdtFault) (o : Option FdtFault) → cond a (Some f) o ≡ None → (a ≡ false) × (o ≡ None)

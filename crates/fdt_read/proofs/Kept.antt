@@ -6,7 +6,7 @@ use Rattle.fdt_tree.specs.declared.edit_fault.EditFault.{EditFault}
 use Rattle.fdt_tree.proofs.Links.{place-new}
 use Rattle.fdt_read.specs.declared.building.Building.{Building}
 use Rattle.fdt_read.specs.Tokens.{Token, begin_node, nop, is_final}
-use Rattle.dl_base.specs.Rows.{first_that_applies}
+use Rattle.texts.specs.Rows.{first_that_applies}
 use Rattle.fdt_read.specs.Refusals.{rows_at, fault_after, open_after, has_node}
 use Rattle.fdt_read.specs.Built.{Shape, IsBuilding, IsWhole}
 use Rattle.fdt_read.proofs.Counted.{level-nop, node-nop}

@@ -5,7 +5,7 @@ use Rattle.fdt_tree.specs.Tree.{Bytes}
 use Rattle.fdt_read.specs.declared.fault.FdtFault.TheVariants.{Token as BadToken}
 use Rattle.fdt_read.specs.Tokens.{begin_node, end_node, property, nop, end}
 use Rattle.fdt_read.specs.Spelling.{is_name}
-use Rattle.dl_base.specs.Rows.{first_that_applies}
+use Rattle.texts.specs.Rows.{first_that_applies}
 use Rattle.fdt_read.specs.Refusals.{rows_at}
 
 pub nop_passes : (l : ℕ) (s past : Bool) (o : ℕ) → first_that_applies (rows_at l s past o nop) ≡ None

@@ -6,7 +6,7 @@ use Rattle.fdt_read.specs.declared.building.Building.{Building}
 use Rattle.fdt_read.specs.declared.fault.FdtFault.{FdtFault}
 use Rattle.fdt_read.specs.Tokens.{Token, token_at, tokens_from, is_final}
 use Rattle.std.specs.Option.{option_or}
-use Rattle.dl_base.specs.Rows.{first_that_applies}
+use Rattle.texts.specs.Rows.{first_that_applies}
 use Rattle.fdt_read.specs.Refusals.{first_fault, fault_after, rows_at}
 use Rattle.fdt_read.specs.Built.{IsBuilding, IsWhole}
 use Rattle.fdt_read.proofs.Kept.{fault_here, building-final}

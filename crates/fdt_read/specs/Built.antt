@@ -8,7 +8,7 @@ use Rattle.fdt_read.specs.Header.{total_size, structure_end, strings_end}
 use Rattle.fdt_read.specs.Tokens.{Token, begin_node, end_node, property}
 use Rattle.fdt_tree.specs.Whole.{height}
 use Rattle.fdt_read.specs.Spelling.{spelled_properties, spelled, spelled_whole, plain, are_named, are_names}
-use Rattle.dl_base.specs.Rows.{first_that_applies}
+use Rattle.texts.specs.Rows.{first_that_applies}
 use Rattle.fdt_read.specs.Refusals.{rows_at, is_begin, is_end_node, open_after, has_node, after_child}
 
 -- The header is whole, and the blocks that it names are within the file.

@@ -2,7 +2,7 @@
 use Rattle.std.specs.Prelude.{ℕ, ◌-◌, ◌%◌, Bool, true, false, ◌==◌, nat_lt, ◌&&◌, ◌||◌, not, List, [], ◌∷◌, ◌++◌, if◌then◌else◌, Option, Some, None, length, count_by}
 use Rattle.std.specs.List.{list_any}
 use Rattle.std.specs.Option.{option_or}
-use Rattle.dl_base.specs.Rows.{first_that_applies}
+use Rattle.texts.specs.Rows.{first_that_applies}
 use Rattle.fdt_tree.specs.Tree.{Bytes, depth_limit}
 use Rattle.fdt_read.specs.declared.fault.FdtFault.{FdtFault}
 use Rattle.fdt_read.specs.declared.fault.FdtFault.TheVariants.{Magic, Version, Bounds, Token as BadToken, Name, Order, Deep}

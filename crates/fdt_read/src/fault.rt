@@ -2,8 +2,8 @@
 ghost use Rattle.std.specs.Prelude.{◌≡◌, ◌++◌, OnOk};
 ghost use Rattle.fdt_read.specs.FaultTexts.{at_offset, fault_text};
 
-use dl_base::Bytes;
 use std::alloc::{AllocError, Global};
+use texts::Bytes;
 
 /// The first fault of a file that is no flattened tree. Each offset counts bytes from the beginning of the file.
 #[derive(Debug, Drop)]

@@ -14,9 +14,9 @@ use crate::reservations::listed;
 use crate::strings::Strings;
 use crate::structure::structure;
 use crate::words::word_of;
-use dl_base::{Bytes, List};
 use fdt_tree::{Reserve, Tree};
 use std::alloc::{AllocError, Global};
+use texts::{Bytes, List};
 
 /// What a flattened device tree says.
 #[derive(Drop)]

@@ -2,7 +2,7 @@
 ghost use Rattle.std.specs.Prelude.{◌≡◌, ◌≤◌, IfNone, ◌==◌, length};
 ghost use Rattle.fdt_read.specs.Built.{IsLaidOut};
 ghost use Rattle.fdt_read.specs.Header.{magic};
-ghost use Rattle.dl_base.specs.Rows.{first_that_applies};
+ghost use Rattle.texts.specs.Rows.{first_that_applies};
 ghost use Rattle.fdt_read.specs.Refusals.{layout_rows};
 
 use crate::fault::FdtFault;

@@ -4,9 +4,9 @@ ghost use Rattle.std.specs.List.{list_any};
 ghost use Rattle.fdt_read.specs.Reservations.{first_pair, pairs, is_last_pair, before_last};
 
 use crate::words::wide_of;
-use dl_base::List;
 use fdt_tree::Reserve;
 use std::alloc::{AllocError, Global};
+use texts::List;
 
 /// Whether this is the pair of zeros that ends the list.
 fn is_zeros(reserve: &Reserve) -> bool

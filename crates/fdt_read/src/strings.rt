@@ -4,10 +4,10 @@ ghost use Rattle.fdt_read.specs.Built.{has_no_nul};
 ghost use Rattle.fdt_read.specs.PrivateStrings.{lengths_of};
 ghost use Rattle.fdt_read.specs.Tokens.{text};
 
-use dl_base::Bytes;
 use fdt_tree::Excerpt;
 use std::alloc::{AllocError, Global};
 use std::marker::Model;
+use texts::Bytes;
 
 /// How many bytes stand before the first NUL from a byte on, by how many do after it.
 fn length_at(byte: u8, after: u32) -> u32

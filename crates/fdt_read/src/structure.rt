@@ -11,9 +11,9 @@ use crate::fault::FdtFault;
 use crate::strings::Strings;
 use crate::token_fault::fault_of;
 use crate::tokens::{is_last, token};
-use dl_base::Bytes;
 use fdt_tree::Tree;
 use std::alloc::Global;
+use texts::Bytes;
 
 /// Reads the tree of the structure block that begins at the offset `start` and has `size` bytes (5.4).
 pub fn structure<'a>(

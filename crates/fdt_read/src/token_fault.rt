@@ -2,7 +2,7 @@
 ghost use Rattle.std.specs.Prelude.{◌≡◌, ◌==◌, not};
 ghost use Rattle.std.specs.List.{list_all};
 ghost use Rattle.fdt_read.specs.Found.{meant};
-ghost use Rattle.dl_base.specs.Rows.{first_that_applies};
+ghost use Rattle.texts.specs.Rows.{first_that_applies};
 ghost use Rattle.fdt_read.specs.Refusals.{rows_at};
 ghost use Rattle.fdt_read.specs.Spelling.{is_name};
 

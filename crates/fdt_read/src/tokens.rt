@@ -8,8 +8,8 @@ ghost use Rattle.fdt_read.specs.Tokens.{is_final, token_at, property_at, begin_n
 
 use crate::strings::Strings;
 use crate::words::word_of;
-use dl_base::Bytes;
 use fdt_tree::Excerpt;
+use texts::Bytes;
 
 /// A token, with what it holds of the input (5.4.1).
 #[derive(Drop)]

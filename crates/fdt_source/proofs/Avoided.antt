@@ -1,8 +1,8 @@
 -- A tree and a text call for no audit: neither reading them nor what is made of them refuses because images differ.
 use Rattle.std.proofs.Common.{◌≡◌, ℕ, List, inl, inr}
 use Rattle.std.specs.Prelude.{Option, Some, None}
-use Rattle.dl_base.specs.Outside.{File}
-use Rattle.dl_base.specs.declared.status.Status.TheVariants as statuses
+use Rattle.outside.specs.Outside.{File}
+use Rattle.outside.specs.declared.status.Status.TheVariants as statuses
 use Rattle.run_steps.specs.Endings.{Refuses}
 use Rattle.run_steps.specs.Trees.{FlatTree}
 use Rattle.run_steps.proofs.ReadingSteps.{tree_file_step}

@@ -1,6 +1,6 @@
 -- The words and files that tell what they hold call for one outcome.
 use Rattle.std.proofs.Common.{◌≤◌, ◌<◌, ℕ, List, Option, Some, None, inl, inr, arith}
-use Rattle.dl_base.specs.Outside.{File}
+use Rattle.outside.specs.Outside.{File}
 use Rattle.run_steps.specs.Laws.{IsDetermined}
 use Rattle.run_steps.specs.Trees.{FlatTree}
 use Rattle.run_steps.proofs.OneOutcome.{refusals_agree, writings_agree, tree_file_decides}

@@ -5,7 +5,7 @@ use Rattle.std.specs.List.{list_all, AllByRecursion}
 use Rattle.std.proofs.lemmas.Bool.{and_parts}
 use Rattle.std.proofs.lemmas.Bool.Decides.{nat_tests}
 use Rattle.std.proofs.lemmas.List.Elements.{recursion_from_All}
-use Rattle.dl_base.specs.NumberTexts.{hexadecimal}
+use Rattle.texts.specs.NumberTexts.{hexadecimal}
 use Rattle.fdt_tree.specs.Tree.{Bytes, Property, Trees, none, tree, Tree, depth_limit}
 use Rattle.fdt_tree.specs.Whole.{height}
 use Rattle.fdt_tree.specs.declared.reserve.Reserve.{Reserve}

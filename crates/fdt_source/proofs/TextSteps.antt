@@ -3,9 +3,9 @@ use Rattle.std.proofs.Common.{◌≡◌, ◌∙◌, refl, sym, ap, subst, arith,
 use Rattle.std.specs.Prelude.{◌⊎◌, Option, Some, Ok, IsTrue, not, filter}
 use Rattle.std.specs.List.{list_all}
 use Rattle.std.proofs.lemmas.Bool.{cases_order}
-use Rattle.dl_base.specs.Outside.{File}
-use Rattle.dl_base.specs.declared.status.Status.{Status}
-use Rattle.dl_base.specs.declared.status.Status.TheVariants as statuses
+use Rattle.outside.specs.Outside.{File}
+use Rattle.outside.specs.declared.status.Status.{Status}
+use Rattle.outside.specs.declared.status.Status.TheVariants as statuses
 use Rattle.fdt_tree.specs.Tree.{Bytes, Tree}
 use Rattle.fdt_tree.specs.declared.reserve.Reserve.{Reserve}
 use Rattle.fdt_read.specs.Reservations.{is_last_pair}

@@ -11,7 +11,7 @@ use Rattle.std.proofs.lemmas.Bool.{and_parts, and_from, eqb-true, true≢false}
 use Rattle.std.proofs.lemmas.Bool.Decides.{nat_tests}
 use Rattle.std.proofs.lemmas.List.Splits.{join_with_byte-slice_split}
 use Rattle.std.proofs.lemmas.Nat.{be_bytes_4}
-use Rattle.dl_base.specs.NumberTexts.{hexadecimal}
+use Rattle.texts.specs.NumberTexts.{hexadecimal}
 use Rattle.fdt_tree.specs.Tree.{Bytes}
 use Rattle.fdt_tree.specs.Values.{all_but_last}
 use Rattle.fdt_source.specs.Characters.{is_string_byte, is_space}

@@ -1,7 +1,7 @@
 -- What a run is called to do by its words and by the files.
 use Rattle.std.specs.Prelude.{ℕ, ◌<◌, ◌≤◌, ◌⊎◌, List, [], ◌∷◌, length, codes, Option, Some, None}
-use Rattle.dl_base.specs.Outside.{File}
-use Rattle.dl_base.specs.declared.status.Status.TheVariants as statuses
+use Rattle.outside.specs.Outside.{File}
+use Rattle.outside.specs.declared.status.Status.TheVariants as statuses
 use Rattle.fdt_write.specs.Flattened.{flattened, length_limit}
 use Rattle.run_steps.specs.Endings.{Outcome}
 use Rattle.run_steps.specs.Steps.{IsRefusal, IsWriting}

@@ -1,7 +1,7 @@
 -- A text of source is read.
 use Rattle.std.specs.Prelude.{ℕ, ◌⊎◌, List, Option, Ok}
-use Rattle.dl_base.specs.Outside.{File}
-use Rattle.dl_base.specs.declared.status.Status.TheVariants as statuses
+use Rattle.outside.specs.Outside.{File}
+use Rattle.outside.specs.declared.status.Status.TheVariants as statuses
 use Rattle.fdt_tree.specs.Tree.{Tree}
 use Rattle.fdt_tree.specs.declared.reserve.Reserve.{Reserve}
 use Rattle.run_steps.specs.Endings.{Outcome}

@@ -6,10 +6,10 @@ ghost use Rattle.fdt_source.specs.PrivateOpened.{begin_text, depth_after, token_
 
 use crate::tabs::Tabs;
 use crate::values::append_after_name;
-use dl_base::Bytes;
 use fdt_tree::Reserve;
 use fdt_write::TreeToken;
 use std::alloc::{AllocError, Global};
+use texts::Bytes;
 
 /// Adds the line of a reservation.
 #[tactic(auto, unfolding(crate::specs::Printed::reserve_line))]

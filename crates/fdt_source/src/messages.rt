@@ -2,9 +2,9 @@
 ghost use Rattle.std.specs.Prelude.{◌≡◌, ◌-◌, ◌^◌, min, IfOk};
 ghost use Rattle.fdt_source.specs.Messages.{bad_name_message, syntax_message, too_long_message};
 
-use dl_base::Bytes;
 use run_steps::make_file_message;
 use std::alloc::{AllocError, Global};
+use texts::Bytes;
 
 /// What is said about a tree with a node, at this path, that cannot be printed.
 pub(crate) fn make_bad_name_message(

@@ -8,7 +8,7 @@ ghost use Rattle.fdt_source.specs.PrivateMeant.{meant};
 use crate::text_building::build_file;
 use crate::tree_printing::print_file;
 use crate::words::Asked;
-use dl_base::Files;
+use outside::Files;
 use run_steps::{Build, Stop};
 use std::alloc::Global;
 

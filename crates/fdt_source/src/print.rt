@@ -13,10 +13,10 @@ use crate::fault::PrintFault;
 use crate::lines::{append_reserves, append_token};
 use crate::opened::OpenNodes;
 use crate::tabs::Tabs;
-use dl_base::Bytes;
 use fdt_tree::{Reserve, Tree};
 use fdt_write::{TreeToken, TreeTokens};
 use std::alloc::{AllocError, Global};
+use texts::Bytes;
 
 /// Adds the lines of a tree.
 fn append_nodes(alloc: Global, out: &mut Bytes, tree: &Tree) -> Result<(), AllocError>

@@ -8,9 +8,9 @@ use crate::fault::SourceFault;
 use crate::reading::{depth_behind, start, take};
 use crate::state::{Comment, Next};
 use crate::turns::{is_done, turn};
-use dl_base::List;
 use fdt_tree::{Reserve, Tree};
 use std::alloc::Global;
+use texts::List;
 
 /// What a text says: a tree and its reservations.
 #[derive(Drop)]

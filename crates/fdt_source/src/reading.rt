@@ -6,9 +6,9 @@ ghost use Rattle.fdt_source.specs.PrivateReadings.{Built, IsRead, act, unread, w
 
 use crate::growing::{Growing, close, give, open};
 use crate::state::Action;
-use dl_base::List;
 use fdt_tree::{Reserve, Tree};
 use std::alloc::{AllocError, Global};
+use texts::List;
 
 /// What is read of a text so far.
 #[derive(Drop)]

@@ -14,10 +14,11 @@ ghost use Rattle.fdt_source.specs.PrivateMeant.{source_tree};
 use crate::fault::SourceFault;
 use crate::messages::{make_syntax_message, make_too_long_message};
 use crate::read::{Source, read_source};
-use dl_base::{Bytes, Files, List, Status, Text};
 use fdt_write::{WriteFault, write};
+use outside::{Files, Status};
 use run_steps::{Build, Output, Stop, read_file};
 use std::alloc::{AllocError, Global};
+use texts::{Bytes, List, Text};
 
 /// The longest text that is read, in bytes.
 const TEXT_LIMIT: u64 = 1_048_576;

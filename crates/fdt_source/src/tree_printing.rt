@@ -10,9 +10,10 @@ ghost use Rattle.fdt_source.specs.Job.{IsPrinting};
 use crate::fault::PrintFault;
 use crate::messages::make_bad_name_message;
 use crate::print::print_source;
-use dl_base::{Bytes, Files, List, Status};
+use outside::{Files, Status};
 use run_steps::{Build, Stop, TreeFile, read_tree};
 use std::alloc::Global;
+use texts::{Bytes, List};
 
 /// The text of a tree of this name, which is put on standard output.
 fn print_tree(alloc: Global, name: &str, tree: &TreeFile) -> Result<Build, Stop>

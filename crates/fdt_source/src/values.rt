@@ -1,13 +1,13 @@
 // The text of a value, added to what is there. After want of memory what was added is no matter.
 ghost use Rattle.std.specs.Prelude.{◌≡◌, ◌<◌, ◌++◌, ◌==◌, ◌∷◌, [], OnOk, codes};
 ghost use Rattle.std.specs.List.{slice_split};
-ghost use Rattle.dl_base.specs.NumberTexts.{hexadecimal};
+ghost use Rattle.texts.specs.NumberTexts.{hexadecimal};
 ghost use Rattle.fdt_tree.specs.Values.{strings};
 ghost use Rattle.fdt_source.specs.Printed.{behind_marks, is_text, are_ended_strings, quoted, words, digit_text, pair_text, strings_text, words_text, bytes_text, value_text, after_name};
 
 use crate::characters::is_shown_in_quotes;
-use dl_base::{Bytes, cut};
 use std::alloc::{AllocError, Global};
+use texts::{Bytes, cut};
 
 /// Whether a value is shown as strings.
 fn is_shown_as_strings(value: &[u8]) -> bool

@@ -1,9 +1,9 @@
 // Parts of bytes, which many properties may share.
 ghost use Rattle.std.specs.Prelude.{◌≡◌, ◌≤◌, length, IfOk, slice_range};
 
-use dl_base::Bytes;
 use std::alloc::{AllocError, Global};
 use std::marker::Model;
+use texts::Bytes;
 
 /// A part of bytes, which contracts see as a list of bytes of its own.
 #[derive(Drop)]

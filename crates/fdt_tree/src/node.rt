@@ -3,8 +3,8 @@ ghost use Rattle.std.specs.Prelude.{◌≡◌, ◌<◌, length, OnOk, OnErr, IfS
 ghost use Rattle.fdt_tree.specs.PrivateLinks.{fresh, linked};
 
 use crate::excerpt::Held;
-use dl_base::Bytes;
 use std::alloc::AllocError;
+use texts::Bytes;
 
 /// A node, by the numbers of its parent and of the nodes and slots next to it. The root's parent is itself.
 #[derive(Drop)]

@@ -11,9 +11,9 @@ use crate::excerpt::{Excerpt, Held};
 use crate::node::{Node, Slot, alone, link};
 use crate::node_id::NodeId;
 use crate::slots::{end_at, find_from, follow, put_value, slot_from, slot_named};
-use dl_base::{Bytes, cut};
 use std::alloc::{AllocError, Global};
 use std::marker::Model;
+use texts::{Bytes, cut};
 
 // The deepest that a node may stand, the root standing at depth 1.
 const DEPTH_LIMIT: usize = 32;

@@ -7,7 +7,7 @@ use Rattle.fdt_read.specs.declared.fault.FdtFault.{FdtFault}
 use Rattle.fdt_read.specs.declared.fault.FdtFault.TheVariants.{Bounds}
 use Rattle.fdt_read.specs.Header.{magic, total_size, structure_offset, structure_size, structure_end, strings_offset, strings_size, strings_end, strings_block, reservations_offset, version, last_compatible_version, boot_processor}
 use Rattle.fdt_read.specs.Reservations.{reservations_block, reservations_end}
-use Rattle.dl_base.specs.Rows.{first_that_applies}
+use Rattle.texts.specs.Rows.{first_that_applies}
 use Rattle.fdt_read.specs.Refusals.{layout_rows, is_reservations_fault, header_fault}
 use Rattle.fdt_write.specs.Blocks.{word_bytes}
 use Rattle.fdt_write.specs.Flattened.{header_words}

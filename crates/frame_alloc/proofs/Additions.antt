@@ -1,6 +1,6 @@
 -- Adding the frames of a range at the end of a list of extents.
 use Rattle.std.proofs.Common.{◌≡◌, ◌≢◌, ℕ, ◌+◌, ◌^◌, ◌<◌, ◌≤◌, ◌⊎◌, List, [], ◌∷◌, ◌++◌, length, get_or, drop, Option, Some, None, refl, sym, ap, subst, ◌∙◌, arith, append-nil}
-use Rattle.dl_base.specs.Consecutive.{numbers}
+use Rattle.texts.specs.Consecutive.{numbers}
 use Rattle.frame_alloc.specs.declared.extents.Extent.{Extent}
 use Rattle.frame_alloc.specs.declared.slots.Slot.{Slot}
 use Rattle.frame_alloc.specs.declared.extent_list.ExtentList.{ExtentList}

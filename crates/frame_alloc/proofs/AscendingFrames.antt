@@ -1,8 +1,8 @@
 -- The frames of ranges and of extents are ascending and below 2^28.
 use Rattle.std.proofs.Common.{◌≡◌, ℕ, zero, suc, ◌+◌, ◌-◌, ◌^◌, ◌<◌, ◌≤◌, List, [], ◌∷◌, ◌++◌, Some, arith}
 use Rattle.std.specs.List.{range_with_len}
-use Rattle.dl_base.specs.Consecutive.{numbers}
-use Rattle.dl_base.specs.declared.ranges.FrameRange.{FrameRange}
+use Rattle.texts.specs.Consecutive.{numbers}
+use Rattle.texts.specs.declared.ranges.FrameRange.{FrameRange}
 use Rattle.frame_alloc.specs.Frames.{frames_in, AreFrameRanges, AreFrameRangesFrom, AreFrames, AreFramesFrom, lowest_run, lowest_group}
 use Rattle.frame_alloc.specs.Extents.{frames_of, AreExtentsFrom}
 use Rattle.frame_alloc.specs.declared.extents.Extent.{Extent}

@@ -4,8 +4,8 @@ use Rattle.std.specs.List.{flat_map}
 use Rattle.std.proofs.lemmas.Bool.Decides.{nat_tests, leb_tells}
 use Rattle.std.specs.Prelude.{nat_lt, nat_le, if◌then◌else◌}
 use Rattle.std.proofs.lemmas.Grind.{flat_map-append}
-use Rattle.dl_base.specs.Consecutive.{numbers}
-use Rattle.dl_base.proofs.NumberLists.{numbers-zero}
+use Rattle.texts.specs.Consecutive.{numbers}
+use Rattle.texts.proofs.NumberLists.{numbers-zero}
 use Rattle.frame_alloc.specs.Frames.{without}
 use Rattle.frame_alloc.specs.Extents.{frames_of, AreExtentsFrom}
 use Rattle.frame_alloc.specs.declared.extents.Extent.{Extent}

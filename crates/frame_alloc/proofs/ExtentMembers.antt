@@ -4,7 +4,7 @@ use Rattle.std.proofs.lemmas.Bool.{false≢true}
 use Rattle.std.proofs.lemmas.Bool.Decides.{leb_tells}
 use Rattle.std.specs.Prelude.{nat_le}
 use Rattle.std.specs.List.{list_all}
-use Rattle.dl_base.specs.Consecutive.{numbers, is_in}
+use Rattle.texts.specs.Consecutive.{numbers, is_in}
 use Rattle.frame_alloc.specs.Frames.{begins_run}
 use Rattle.frame_alloc.specs.Extents.{frames_of, AreExtentsFrom}
 use Rattle.frame_alloc.specs.declared.extents.Extent.{Extent}

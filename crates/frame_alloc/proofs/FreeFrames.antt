@@ -6,7 +6,7 @@ use Rattle.std.proofs.lemmas.Bool.Decides.{leb_tells, eqb_tells}
 use Rattle.std.proofs.lemmas.List.Folds.{list_any-append}
 use Rattle.std.specs.Prelude.{◌==◌}
 use Rattle.std.specs.List.{range_with_len, filter, find, list_any, list_all}
-use Rattle.dl_base.specs.Consecutive.{numbers, is_in}
+use Rattle.texts.specs.Consecutive.{numbers, is_in}
 use Rattle.frame_alloc.specs.Frames.{AreFrames, AreFramesFrom, is_within, without, begins_run, begins_group, lowest_frame, lowest_run, lowest_group, lowest_pair}
 use Rattle.frame_alloc.proofs.Without.{is_within-in, is_within-below, is_within-above}
 

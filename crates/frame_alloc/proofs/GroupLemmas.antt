@@ -5,8 +5,8 @@ use Rattle.std.proofs.lemmas.List.Sums.{sum_by-append, sum_by-cons}
 use Rattle.std.specs.Prelude.{◌==◌, nat_le}
 use Rattle.std.specs.List.{range_with_len, count_by, sum_by}
 use Rattle.std.specs.Int.{div_ceil}
-use Rattle.dl_base.specs.Consecutive.{numbers}
-use Rattle.dl_base.proofs.NumberLists.{length-numbers}
+use Rattle.texts.specs.Consecutive.{numbers}
+use Rattle.texts.proofs.NumberLists.{length-numbers}
 use Rattle.frame_alloc.specs.Frames.{begins_group, chunk_count}
 use Rattle.frame_alloc.specs.Extents.{frames_of, AreExtentsFrom}
 use Rattle.frame_alloc.specs.declared.extents.Extent.{Extent}

@@ -1,6 +1,6 @@
 -- The definitions on small lists, computed.
 use Rattle.std.proofs.Common.{◌≡◌, [], ◌∷◌, Some, None, refl}
-use Rattle.dl_base.specs.Consecutive.{numbers, is_in}
+use Rattle.texts.specs.Consecutive.{numbers, is_in}
 use Rattle.frame_alloc.specs.Frames.{frames_in, lowest_frame, lowest_run, lowest_pair, lowest_group, without}
 
 touching_ranges : frames_in (record { first = 1; count = 2 } ∷ record { first = 3; count = 0 } ∷ record { first = 3; count = 1 } ∷ []) ≡ 1 ∷ 2 ∷ 3 ∷ []

@@ -4,9 +4,9 @@ use Rattle.std.proofs.lemmas.Bool.{false≢true}
 use Rattle.std.proofs.lemmas.Bool.Decides.{leb_tells, eqb_tells}
 use Rattle.std.specs.Prelude.{◌==◌}
 use Rattle.std.specs.List.{find}
-use Rattle.dl_base.specs.Consecutive.{numbers, is_in}
-use Rattle.dl_base.specs.declared.ranges.FrameRange.{FrameRange}
-use Rattle.dl_base.proofs.NumberLists.{length-numbers}
+use Rattle.texts.specs.Consecutive.{numbers, is_in}
+use Rattle.texts.specs.declared.ranges.FrameRange.{FrameRange}
+use Rattle.texts.proofs.NumberLists.{length-numbers}
 use Rattle.frame_alloc.specs.Frames.{frames_in, begins_group, without, lowest_group, lowest_pair}
 use Rattle.frame_alloc.specs.Extents.{frames_of}
 use Rattle.frame_alloc.specs.declared.extents.Extent.{Extent}

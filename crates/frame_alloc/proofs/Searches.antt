@@ -4,8 +4,8 @@ use Rattle.std.specs.Prelude.{nat_le}
 use Rattle.std.specs.List.{find}
 use Rattle.std.specs.Option.{option_or}
 use Rattle.std.proofs.lemmas.List.Folds.{find-append}
-use Rattle.dl_base.specs.Consecutive.{numbers, is_in}
-use Rattle.dl_base.proofs.NumberLists.{find-map-numbers, find-map-numbers-none}
+use Rattle.texts.specs.Consecutive.{numbers, is_in}
+use Rattle.texts.proofs.NumberLists.{find-map-numbers, find-map-numbers-none}
 use Rattle.frame_alloc.specs.declared.extents.Extent.{Extent}
 use Rattle.frame_alloc.specs.declared.slots.Slot.{Slot}
 use Rattle.frame_alloc.specs.declared.extent_list.ExtentList.{ExtentList}

@@ -3,8 +3,8 @@ use Rattle.std.proofs.Common.{◌≡◌, ℕ, zero, suc, ◌+◌, ◌-◌, ◌<�
 use Rattle.std.specs.List.{range_with_len, filter}
 use Rattle.std.proofs.lemmas.Bool.Decides.{nat_tests, leb_tells}
 use Rattle.std.proofs.lemmas.List.Elements.{filter-append}
-use Rattle.dl_base.specs.Consecutive.{numbers}
-use Rattle.dl_base.proofs.NumberLists.{numbers-zero}
+use Rattle.texts.specs.Consecutive.{numbers}
+use Rattle.texts.proofs.NumberLists.{numbers-zero}
 use Rattle.frame_alloc.specs.Frames.{is_within, without}
 
 pub is_within-in : (first count frame : ℕ) → first ≤ frame → frame < first + count → is_within first count frame ≡ true

@@ -1,6 +1,6 @@
 -- Extents of free frames, and the frames in them.
 use Rattle.std.specs.Prelude.{ℕ, ◌+◌, ◌^◌, ◌<◌, ◌≤◌, List, [], ◌∷◌, flat_map}
-use Rattle.dl_base.specs.Consecutive.{numbers}
+use Rattle.texts.specs.Consecutive.{numbers}
 use Rattle.frame_alloc.specs.declared.extents.Extent.{Extent}
 
 -- the frames of the extents, in order

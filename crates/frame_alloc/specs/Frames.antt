@@ -1,8 +1,8 @@
 -- Lists of free host frames, ascending, and what is drawn from them. A frame is a host page of 4,096 bytes, by its number.
 use Rattle.std.specs.Prelude.{ℕ, ◌+◌, ◌%◌, ◌^◌, ◌<◌, ◌≤◌, ◌==◌, ◌&&◌, nat_lt, nat_le, not, Bool, List, [], ◌∷◌, filter, flat_map, find, count_by, slice_get, Option}
 use Rattle.std.specs.List.{list_all}
-use Rattle.dl_base.specs.Consecutive.{numbers, is_in}
-use Rattle.dl_base.specs.declared.ranges.FrameRange.{FrameRange}
+use Rattle.texts.specs.Consecutive.{numbers, is_in}
+use Rattle.texts.specs.declared.ranges.FrameRange.{FrameRange}
 
 -- the frames of a list of ranges, in order
 abbrev pub frames_in : List FrameRange → List ℕ

@@ -1,6 +1,6 @@
 // Extents: runs of consecutive free frames, and the list of those of sorted ranges.
 ghost use Rattle.std.specs.Prelude.{◌≡◌, ◌+◌, ◌-◌, ◌^◌, ◌<◌, ◌≤◌, ◌++◌, length, IfOk, OnOk};
-ghost use Rattle.dl_base.specs.Consecutive.{numbers};
+ghost use Rattle.texts.specs.Consecutive.{numbers};
 ghost use Rattle.frame_alloc.specs.Frames.{frames_in, AreFrameRanges};
 ghost use Rattle.frame_alloc.specs.Extents.{frames_of, AreExtentsFrom};
 ghost use Rattle.frame_alloc.specs.PrivateExtents.{end_from};
@@ -8,8 +8,8 @@ ghost use Rattle.frame_alloc.specs.Slots.{extents_in, IsExtentList};
 ghost use Rattle.frame_alloc.specs.PrivateLinks.{last_used};
 
 use crate::extent_list::{ExtentList, change, insert_after};
-use dl_base::FrameRange;
 use std::alloc::{AllocError, Global};
+use texts::FrameRange;
 
 /// A run of free frames: `count` of them, from frame `first` on. A frame is a host page of 4,096 bytes, named by its
 /// address divided by 4,096.

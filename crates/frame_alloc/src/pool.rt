@@ -6,9 +6,9 @@ use crate::extent_list::ExtentList;
 use crate::extents::{extents_of, frame_count};
 use crate::groups::{CHUNK_SIZE, PAIR_SIZE, chunks_in, lowest_group, lowest_run};
 use crate::removal::{remove_range, take_lowest};
-use dl_base::{FrameRange, List};
 use std::alloc::{AllocError, Global};
 use std::marker::Model;
+use texts::{FrameRange, List};
 
 /// Why the pool gave nothing.
 #[derive(Clone, Copy, PartialEq, Eq, Debug)]

@@ -3,8 +3,8 @@ use Rattle.std.proofs.Common.{◌≡◌, ℕ, ◌+◌, ◌<◌, ◌≤◌, ◌�
 use Rattle.std.specs.List.{list_all}
 use Rattle.std.proofs.lemmas.List.Folds.{list_all-append}
 use Rattle.std.proofs.lemmas.Bool.Decides.{leb_tells, nat_tests}
-use Rattle.dl_base.specs.Consecutive.{numbers}
-use Rattle.dl_base.specs.declared.ranges.FrameRange.{FrameRange}
+use Rattle.texts.specs.Consecutive.{numbers}
+use Rattle.texts.specs.declared.ranges.FrameRange.{FrameRange}
 use Rattle.frame_alloc.specs.Frames.{frames_in, is_within, AreFrameRangesFrom}
 use Rattle.frame_alloc.proofs.FreeFrames.{list_all-numbers, list_all-numbers_tells}
 use Rattle.frame_alloc.proofs.PairLemmas.{frames_in-one}

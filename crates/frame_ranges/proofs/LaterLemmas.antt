@@ -1,8 +1,8 @@
 -- Sorted ranges without those that end before a range.
 use Rattle.std.proofs.Common.{◌≡◌, ◌∙◌, ap, sym, refl, ℕ, zero, suc, ◌+◌, ◌^◌, ◌<◌, ◌≤◌, true, false, ◌||◌, List, [], ◌∷◌, length, drop, slice_index_or, arith}
 use Rattle.std.specs.List.{list_all}
-use Rattle.dl_base.specs.Consecutive.{numbers}
-use Rattle.dl_base.specs.declared.ranges.FrameRange.{FrameRange}
+use Rattle.texts.specs.Consecutive.{numbers}
+use Rattle.texts.specs.declared.ranges.FrameRange.{FrameRange}
 use Rattle.frame_alloc.specs.Frames.{is_within, AreFrameRangesFrom}
 use Rattle.frame_alloc.proofs.ExtentLemmas.{AreFrameRanges-weaker}
 use Rattle.frame_alloc.proofs.FreeFrames.{list_all-numbers, list_all-numbers_tells}

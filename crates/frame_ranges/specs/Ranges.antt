@@ -1,8 +1,8 @@
 -- Ranges of frames: which frames they hold, what two lists of them have in common, and which frames a range of bytes touches. A frame is 4,096 bytes, and frames are below 2^28. A range of guest pages is written as one of frames is.
 use Rattle.std.specs.Prelude.{ℕ, ◌+◌, ◌-◌, ◌/◌, ◌^◌, ◌==◌, Bool, min, if◌then◌else◌, List}
 use Rattle.std.specs.List.{list_any, list_all}
-use Rattle.dl_base.specs.declared.ranges.BaseSize.{BaseSize}
-use Rattle.dl_base.specs.declared.ranges.FrameRange.{FrameRange}
+use Rattle.texts.specs.declared.ranges.BaseSize.{BaseSize}
+use Rattle.texts.specs.declared.ranges.FrameRange.{FrameRange}
 use Rattle.frame_alloc.specs.Frames.{frames_in, is_within}
 
 -- the frames from first on that lie before end

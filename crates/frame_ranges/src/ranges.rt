@@ -1,11 +1,11 @@
 // Ranges of frames and of pages, and what they have in common. A frame or page is 4,096 bytes, by its number.
 ghost use Rattle.std.specs.Prelude.{◌≡◌, ℕ, ◌+◌, ◌^◌, ◌<◌, ◌≤◌, [], ◌∷◌, length, slice_index_or};
-ghost use Rattle.dl_base.specs.declared.ranges.FrameRange.{FrameRange as Frames};
+ghost use Rattle.texts.specs.declared.ranges.FrameRange.{FrameRange as Frames};
 ghost use Rattle.frame_alloc.specs.Frames.{AreFrameRanges};
 ghost use Rattle.frame_ranges.specs.Ranges.{touched, have_common, lie_in};
 
-use dl_base::{BaseSize, FrameRange};
 use std::cmp::min;
+use texts::{BaseSize, FrameRange};
 
 /// Addresses and frames are below 2^40 and 2^28.
 pub(crate) const FRAME_LIMIT: u64 = 1 << 28;

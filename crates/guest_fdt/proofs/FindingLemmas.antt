@@ -2,8 +2,8 @@
 use Rattle.std.proofs.Common.{◌≡◌, ℕ, Bool, true, false, List, [], ◌∷◌, ◌++◌, Option, Some, None, codes, refl, sym, ap, ◌∙◌}
 use Rattle.std.specs.Prelude.{bytes_eq, option_map}
 use Rattle.std.specs.Option.{option_to_list}
-use Rattle.dl_base.specs.declared.ranges.BaseSize.{BaseSize}
-use Rattle.dl_base.specs.declared.layout.Layout.{Layout}
+use Rattle.texts.specs.declared.ranges.BaseSize.{BaseSize}
+use Rattle.described.specs.declared.layout.Layout.{Layout}
 use Rattle.domain_plan.specs.declared.planned.GuestPlan.{GuestPlan}
 use Rattle.fdt_tree.specs.Tree.{Bytes, Tree, components}
 use Rattle.tree_parts.specs.Nodes.{on, on_any}

@@ -2,11 +2,11 @@
 use Rattle.std.proofs.Common.{◌≡◌, ◌∙◌, ap, sym, subst, refl, ℕ, ◌+◌, ◌-◌, ◌/◌, ◌^◌, ◌<◌, ◌≤◌, min, Bool, true, false, cond, List, [], ◌∷◌, filter, All, Option, Some, None, arith}
 use Rattle.std.specs.Prelude.{IsTrue, flat_map, sum_by, nat_lt}
 use Rattle.std.proofs.lemmas.List.Elements.{All-append, All-nil, All-cons, All-head, All-tail, All-map}
-use Rattle.dl_base.specs.Sound.{AreWholePages, IsSound, IsSoundRegion}
-use Rattle.dl_base.specs.declared.item.Described.{Described}
-use Rattle.dl_base.specs.declared.item.What.{What}
-use Rattle.dl_base.specs.declared.item.What.TheVariants as whats
-use Rattle.dl_base.specs.declared.ranges.FrameRange.{FrameRange}
+use Rattle.described.specs.Sound.{AreWholePages, IsSound, IsSoundRegion}
+use Rattle.described.specs.declared.item.Described.{Described}
+use Rattle.described.specs.declared.item.What.{What}
+use Rattle.described.specs.declared.item.What.TheVariants as whats
+use Rattle.texts.specs.declared.ranges.FrameRange.{FrameRange}
 use Rattle.frame_ranges.specs.Ranges.{touched}
 use Rattle.domain_plan.specs.declared.described.Guest.{Guest}
 use Rattle.domain_plan.specs.Arguments.{IsSoundGuest, whats_of}

@@ -4,14 +4,14 @@ use Rattle.std.specs.Prelude.{IsTrue, ◌==◌, ◌&&◌, nat_lt, nat_le, is_non
 use Rattle.std.specs.Option.{option_map_or}
 use Rattle.std.proofs.lemmas.List.Elements.{All-append, All-nil, All-cons, All-head, All-tail}
 use Rattle.std.proofs.lemmas.Bool.Decides.{nat_tests}
-use Rattle.dl_base.specs.declared.item.Described.{Described}
-use Rattle.dl_base.specs.declared.item.Item.{Item}
-use Rattle.dl_base.specs.declared.item.Part.TheVariants as parts
-use Rattle.dl_base.specs.declared.item.What.{What}
-use Rattle.dl_base.specs.declared.item.What.TheVariants as whats
-use Rattle.dl_base.specs.declared.why.Why.{Why}
-use Rattle.dl_base.specs.declared.why.Why.TheVariants.{TooMany, Missing, BadLength, BadValue}
-use Rattle.dl_base.specs.Reasons.{described}
+use Rattle.described.specs.declared.item.Described.{Described}
+use Rattle.described.specs.declared.item.Item.{Item}
+use Rattle.described.specs.declared.item.Part.TheVariants as parts
+use Rattle.described.specs.declared.item.What.{What}
+use Rattle.described.specs.declared.item.What.TheVariants as whats
+use Rattle.described.specs.declared.why.Why.{Why}
+use Rattle.described.specs.declared.why.Why.TheVariants.{TooMany, Missing, BadLength, BadValue}
+use Rattle.described.specs.Reasons.{described}
 use Rattle.fdt_tree.specs.Tree.{Bytes, Tree, property_of}
 use Rattle.fdt_nodes.specs.Nodes.{Node, children, node_found, shown}
 use Rattle.fdt_nodes.specs.NodeItems.{item_of}

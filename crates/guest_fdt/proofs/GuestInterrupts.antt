@@ -4,9 +4,9 @@ use Rattle.std.specs.Prelude.{IsTrue, ◌==◌, ◌&&◌, is_none, flat_map}
 use Rattle.std.specs.List.{list_all, list_any}
 use Rattle.std.proofs.lemmas.Grind.{flat_map-append}
 use Rattle.std.proofs.lemmas.List.Elements.{All-head, All-tail}
-use Rattle.dl_base.specs.Consecutive.{numbers}
-use Rattle.dl_base.specs.declared.item.Described.{Described}
-use Rattle.dl_base.specs.declared.item.What.{What}
+use Rattle.texts.specs.Consecutive.{numbers}
+use Rattle.described.specs.declared.item.Described.{Described}
+use Rattle.described.specs.declared.item.What.{What}
 use Rattle.fdt_tree.specs.Tree.{Tree}
 use Rattle.fdt_nodes.specs.Nodes.{Node}
 use Rattle.domain_bindings.specs.Heads.{head_item}

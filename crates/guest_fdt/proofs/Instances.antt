@@ -1,13 +1,13 @@
 -- Worked trees: the first is written out whole, as a listing of it shows it.
 use Rattle.std.proofs.Common.{ℕ, zero, suc, ◌+◌, ◌<◌, ◌≤◌, ◌^◌, arith, ◌≡◌, [], ◌∷◌, ◌++◌, Some, None, true, false, codes, refl}
 use Rattle.std.specs.Fmt.{digits}
-use Rattle.dl_base.specs.Consecutive.{numbers}
+use Rattle.texts.specs.Consecutive.{numbers}
 use Rattle.std.specs.Prelude.{All, IsTrue, option_map}
-use Rattle.dl_base.specs.Consecutive.{is_in}
-use Rattle.dl_base.specs.declared.layout.Layout.{Layout}
+use Rattle.texts.specs.Consecutive.{is_in}
+use Rattle.described.specs.declared.layout.Layout.{Layout}
 use Rattle.fdt_tree.specs.Tree.{Bytes, property_of}
 use Rattle.guest_fdt.specs.Laws.{IsDescription, is_text}
-use Rattle.dl_base.specs.Layouts.{usual_layout}
+use Rattle.described.specs.Layouts.{usual_layout}
 use Rattle.domain_plan.specs.declared.planned.GuestPlan.{GuestPlan}
 use Rattle.fdt_tree.specs.Tree.{none, tree, Tree}
 use Rattle.guest_fdt.specs.Found.{node_found}

@@ -5,19 +5,19 @@ use Rattle.std.specs.Option.{option_map_or}
 use Rattle.std.specs.List.{list_all, list_any}
 use Rattle.std.proofs.lemmas.Grind.{flat_map-append}
 use Rattle.std.proofs.lemmas.Bool.Decides.{nat_tests, eqb_tells}
-use Rattle.dl_base.specs.Consecutive.{numbers}
-use Rattle.dl_base.specs.declared.item.Described.{Described}
-use Rattle.dl_base.specs.declared.item.Item.{Item}
-use Rattle.dl_base.specs.declared.item.What.{What}
-use Rattle.dl_base.specs.declared.item.Part.TheVariants as parts
-use Rattle.dl_base.specs.declared.item.What.TheVariants as whats
-use Rattle.dl_base.specs.declared.why.Why.{Why}
-use Rattle.dl_base.specs.declared.why.Why.TheVariants as whys
+use Rattle.texts.specs.Consecutive.{numbers}
+use Rattle.described.specs.declared.item.Described.{Described}
+use Rattle.described.specs.declared.item.Item.{Item}
+use Rattle.described.specs.declared.item.What.{What}
+use Rattle.described.specs.declared.item.Part.TheVariants as parts
+use Rattle.described.specs.declared.item.What.TheVariants as whats
+use Rattle.described.specs.declared.why.Why.{Why}
+use Rattle.described.specs.declared.why.Why.TheVariants as whys
 use Rattle.fdt_tree.specs.Tree.{Bytes, Property, Trees, none, tree, Tree, Place, at, find_place, property_of}
 use Rattle.fdt_nodes.specs.Nodes as nodes
 use Rattle.fdt_nodes.specs.Values as values
 use Rattle.fdt_nodes.specs.Entries.{is_whole, split_entries}
-use Rattle.dl_base.specs.Reasons.{described}
+use Rattle.described.specs.Reasons.{described}
 use Rattle.passthrough_dtb.specs.Whole.{passed_nodes, partial_item, partial_reason, item_in}
 use Rattle.passthrough_dtb.specs.Devices.{is_device, devices, device_item, device_reason, host_node, lacks_path, has_bad_path, has_bad_cells, lacks_host, lacks_iommu, is_extended, has_bad_reg, has_bad_interrupts, has_bad_length, properties_of}
 use Rattle.fdt_nodes.specs.declared.entries.Window.{Window}

@@ -2,7 +2,7 @@
 use Rattle.std.proofs.Common.{◌≡◌, ◌≤◌, ◌^◌, ℕ, ◌+◌, true, List, [], ◌∷◌, ◌++◌, Option, Some, None, map, filter, flat_map, codes, refl, ap, ◌∙◌}
 use Rattle.std.specs.Prelude.{All, IsTrue, option_map}
 use Rattle.domain_plan.specs.declared.planned.GuestPlan.{GuestPlan}
-use Rattle.dl_base.specs.declared.ranges.BaseSize.{BaseSize}
+use Rattle.texts.specs.declared.ranges.BaseSize.{BaseSize}
 use Rattle.fdt_tree.specs.Tree.{Bytes, Tree}
 use Rattle.fdt_tree.specs.Values.{cells_of}
 use Rattle.tree_parts.specs.Nodes.{on_some, on_any}

@@ -1,6 +1,6 @@
 -- The nodes of a guest's machine, part by part.
 use Rattle.std.proofs.Common.{List, ◌++◌}
-use Rattle.dl_base.specs.declared.layout.Layout.{Layout}
+use Rattle.described.specs.declared.layout.Layout.{Layout}
 use Rattle.domain_plan.specs.declared.planned.GuestPlan.{GuestPlan}
 use Rattle.fdt_tree.specs.Tree.{Tree}
 use Rattle.guest_fdt.specs.GuestTree.{first_nodes, memory_nodes, device_nodes, console_nodes, region_nodes}

@@ -3,12 +3,12 @@ use Rattle.std.proofs.Common.{◌≡◌, Bool, true, false, not, List, [], ◌�
 use Rattle.std.specs.Prelude.{IsTrue, ◌&&◌, ◌||◌, option_map, option_and_then}
 use Rattle.std.specs.Option.{option_map_or}
 use Rattle.std.specs.List.{list_all}
-use Rattle.dl_base.specs.declared.why.Why.{Why}
-use Rattle.dl_base.specs.declared.why.Why.TheVariants.{Missing, BadLength, BadValue}
+use Rattle.described.specs.declared.why.Why.{Why}
+use Rattle.described.specs.declared.why.Why.TheVariants.{Missing, BadLength, BadValue}
 use Rattle.fdt_tree.specs.Tree.{Bytes, Tree, Place, at, find_place}
 use Rattle.fdt_nodes.specs.Nodes as nodes
 use Rattle.fdt_nodes.specs.Values as values
-use Rattle.dl_base.specs.Reasons.{where_so, first_reason}
+use Rattle.described.specs.Reasons.{where_so, first_reason}
 use Rattle.passthrough_dtb.specs.Whole.{has_memory_node, properties_found, partial_reason, lacks_passthrough, has_bad_gic}
 use Rattle.guest_fdt.specs.Copies.{found_in, copied_paths}
 use Rattle.guest_fdt.specs.Laws.{is_no_memory}

@@ -3,9 +3,9 @@ use Rattle.std.proofs.Common.{◌≡◌, ◌∙◌, ap, ap₂, sym, subst, refl,
 use Rattle.std.specs.Prelude.{◌&&◌, is_none, nat_le, slice_get, if◌then◌else◌}
 use Rattle.std.proofs.lemmas.Bool.Decides.{nat_tests}
 use Rattle.std.proofs.lemmas.Option.{same_Some, none-some}
-use Rattle.dl_base.specs.declared.item.Part.TheVariants as parts
-use Rattle.dl_base.specs.declared.ranges.FrameRange.{FrameRange}
-use Rattle.dl_base.specs.declared.why.Why.{Why}
+use Rattle.described.specs.declared.item.Part.TheVariants as parts
+use Rattle.texts.specs.declared.ranges.FrameRange.{FrameRange}
+use Rattle.described.specs.declared.why.Why.{Why}
 use Rattle.fdt_tree.specs.Tree.{Tree}
 use Rattle.fdt_nodes.specs.Nodes.{Node}
 use Rattle.fdt_nodes.specs.NodeItems.{item_of}

@@ -1,6 +1,6 @@
 -- The law: a reader of the tree of a guest finds what is described of it.
 use Rattle.std.proofs.Common.{◌≡◌, sym, ap, ◌∙◌, flat_map}
-use Rattle.dl_base.specs.Consecutive.{is_in}
+use Rattle.texts.specs.Consecutive.{is_in}
 use Rattle.guest_fdt.specs.Laws.{pages_of, TreeListsTheGuest}
 use Rattle.guest_fdt.specs.Listed.{Listing, interrupts_in, listed}
 use Rattle.guest_fdt.specs.Described.{described, partial_devices}

@@ -1,6 +1,6 @@
 -- What a guest's description says, in the same five lists.
 use Rattle.std.specs.Prelude.{ℕ, ◌*◌, List, map, Option}
-use Rattle.dl_base.specs.declared.ranges.BaseSize.{BaseSize}
+use Rattle.texts.specs.declared.ranges.BaseSize.{BaseSize}
 use Rattle.domain_plan.specs.declared.planned.GuestPlan.{GuestPlan}
 use Rattle.fdt_tree.specs.Tree.{Tree}
 use Rattle.guest_fdt.specs.Copies.{kept}

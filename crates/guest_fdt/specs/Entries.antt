@@ -1,6 +1,6 @@
 -- What a reader finds in the cells of properties (Devicetree Specification 0.4, 2.2.4 and 2.3.6).
 use Rattle.std.specs.Prelude.{ℕ, List, map, Option, codes}
-use Rattle.dl_base.specs.declared.ranges.BaseSize.{BaseSize}
+use Rattle.texts.specs.declared.ranges.BaseSize.{BaseSize}
 use Rattle.domain_bindings.specs.Statics.{regions_of}
 use Rattle.fdt_nodes.specs.Entries.{first_number, after_cells, split_entries}
 use Rattle.fdt_tree.specs.Tree.{Bytes, Property, property_of}

@@ -1,6 +1,6 @@
 -- The device tree that is written for a guest.
 use Rattle.std.specs.Prelude.{List, [], ◌∷◌, ◌++◌, map, Option}
-use Rattle.dl_base.specs.declared.layout.Layout.{Layout}
+use Rattle.described.specs.declared.layout.Layout.{Layout}
 use Rattle.domain_plan.specs.declared.planned.GuestPlan.{GuestPlan}
 use Rattle.fdt_tree.specs.Tree.{Tree}
 use Rattle.tree_parts.specs.Nodes.{node, on, on_any}

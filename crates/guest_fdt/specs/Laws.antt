@@ -1,8 +1,8 @@
 -- A guest's tree lists what the guest's description says.
 use Rattle.std.specs.Prelude.{◌≡◌, ℕ, ◌/◌, ◌^◌, ◌<◌, ◌==◌, Bool, true, not, IsTrue, List, All, flat_map, Option, Some, None}
 use Rattle.std.specs.List.{list_all}
-use Rattle.dl_base.specs.Consecutive.{numbers, is_in}
-use Rattle.dl_base.specs.declared.ranges.BaseSize.{BaseSize}
+use Rattle.texts.specs.Consecutive.{numbers, is_in}
+use Rattle.texts.specs.declared.ranges.BaseSize.{BaseSize}
 use Rattle.domain_plan.specs.declared.planned.GuestPlan.{GuestPlan}
 use Rattle.domain_plan.specs.Memories.{is_listed, is_ram}
 use Rattle.fdt_tree.specs.Tree.{Bytes, Tree}

@@ -1,7 +1,7 @@
 -- The nodes of a guest's machine, each a table of properties (Devicetree Specification 0.4, 3; Linux, Documentation/devicetree/bindings).
 use Rattle.std.specs.Prelude.{ℕ, ◌+◌, ◌*◌, ◌/◌, ◌%◌, Bool, List, [], ◌∷◌, ◌++◌, map, flat_map, Option, codes}
-use Rattle.dl_base.specs.Consecutive.{numbers}
-use Rattle.dl_base.specs.declared.ranges.BaseSize.{BaseSize}
+use Rattle.texts.specs.Consecutive.{numbers}
+use Rattle.texts.specs.declared.ranges.BaseSize.{BaseSize}
 use Rattle.fdt_tree.specs.Tree.{Bytes, Property, Tree}
 use Rattle.tree_parts.specs.Nodes.{node, leaf, cells, wide_cells, text, flag, two_and_two, named_at, on, on_some}
 

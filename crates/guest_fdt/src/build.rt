@@ -11,7 +11,7 @@ ghost use Rattle.tree_parts.specs.Nodes.{trees_of};
 use crate::copies::add_copies;
 use crate::machine::{add_console, add_hypervisor, add_interrupt_controller, add_psci, add_timer};
 use crate::parts::{add_chosen, add_cpus, add_memories, add_ports, add_regions};
-use dl_base::Layout;
+use described::Layout;
 use domain_plan::GuestPlan;
 use fdt_tree::{NodeId, Tree};
 use std::alloc::{AllocError, Global};

@@ -6,9 +6,9 @@ ghost use Rattle.tree_parts.specs.Grown.{Grows};
 ghost use Rattle.guest_fdt.specs.Machine.{cpu, psci, memory, interrupt_controller, timer, hypervisor, console, region, affinity};
 
 use crate::nodes::add_leaf_at;
-use dl_base::{BaseSize, Bytes};
 use fdt_tree::{NodeId, Tree};
 use std::alloc::{AllocError, Global};
+use texts::{BaseSize, Bytes};
 use tree_parts::{Row, add_leaf};
 
 /// Adds a vCPU.

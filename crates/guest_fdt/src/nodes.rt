@@ -7,9 +7,9 @@ ghost use Rattle.tree_parts.specs.Grown.{Grows};
 ghost use Rattle.fdt_tree.specs.Document.{have_names};
 ghost use Rattle.tree_parts.specs.Rows.{properties};
 
-use dl_base::Bytes;
 use fdt_tree::{NodeId, Tree};
 use std::alloc::{AllocError, Global};
+use texts::Bytes;
 use tree_parts::{Row, add_leaf};
 
 /// A name, `@` and an address in hexadecimal digits.

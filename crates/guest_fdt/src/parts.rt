@@ -11,9 +11,9 @@ use crate::machine::{
     add_region, add_timer,
 };
 use crate::nodes::name_at;
-use dl_base::{BaseSize, Bytes};
 use fdt_tree::{NodeId, Tree};
 use std::alloc::{AllocError, Global};
+use texts::{BaseSize, Bytes};
 use tree_parts::{Row, add_empty, add_leaf, add_open, add_rows};
 
 /// Gives a node the command line, if there is one.

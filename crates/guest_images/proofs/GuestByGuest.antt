@@ -2,7 +2,7 @@
 use Rattle.std.proofs.Common.{◌≡◌, ◌∙◌, ◌+◌, ◌<◌, suc, refl, sym, ap, inl, inr, ℕ, length, take, drop, drop-cons, get_or, List, [], ◌∷◌, ◌++◌, Option, Some, None}
 use Rattle.std.specs.Prelude.{◌⊎◌}
 use Rattle.std.proofs.lemmas.List.{take_more, take-append-drop}
-use Rattle.dl_base.specs.declared.why.Why.{Why}
+use Rattle.described.specs.declared.why.Why.{Why}
 use Rattle.domain_plan.specs.declared.planned.GuestPlan.{GuestPlan}
 use Rattle.guest_images.specs.Faults.{IsFaultOf}
 use Rattle.guest_images.specs.declared.fault.ImagesFault.{ImagesFault}

@@ -1,7 +1,7 @@
 -- Image files in the frames that are drawn for them are the least ones.
 use Rattle.std.proofs.Common.{◌≡◌, ◌∙◌, ap, ap₂, sym, ℕ, List, [], ◌∷◌, Option, unwrap_or}
 use Rattle.std.proofs.lemmas.Option.{same_Some}
-use Rattle.dl_base.specs.Maps.{target_of}
+use Rattle.described.specs.Maps.{target_of}
 use Rattle.stage2_walk.specs.Pages.{frames_of}
 use Rattle.stage2_walk.specs.Files.{file_of}
 use Rattle.stage2_tables.specs.Draws.{drawn_after, drawn_from}

@@ -1,7 +1,7 @@
 -- The image files of guests, as a function of their plans and of the free frames.
 use Rattle.std.specs.Prelude.{ℕ, List, [], ◌∷◌, unwrap_or}
-use Rattle.dl_base.specs.Maps.{target_of}
-use Rattle.dl_base.specs.declared.ranges.MapRange.{MapRange}
+use Rattle.described.specs.Maps.{target_of}
+use Rattle.described.specs.declared.map_range.MapRange.{MapRange}
 use Rattle.stage2_walk.specs.Files.{file_of}
 use Rattle.stage2_tables.specs.Draws.{table_frames}
 use Rattle.stage2_tables.specs.Least.{least_image}

@@ -1,8 +1,8 @@
 -- What is known of image files while they are built. Only private contracts and proofs use this file.
 use Rattle.std.specs.Prelude.{◌≡◌, ℕ, List, [], ◌∷◌, Some, Ok}
-use Rattle.dl_base.specs.Maps.{target_of}
-use Rattle.dl_base.specs.Regions.{table_count}
-use Rattle.dl_base.specs.declared.ranges.MapRange.{MapRange}
+use Rattle.described.specs.Maps.{target_of}
+use Rattle.described.specs.Regions.{table_count}
+use Rattle.described.specs.declared.map_range.MapRange.{MapRange}
 use Rattle.frame_alloc.specs.Frames.{lowest_pair}
 use Rattle.stage2_walk.specs.Pages.{Page, frames_of}
 use Rattle.stage2_walk.specs.Files.{file_of, image_of}

@@ -1,11 +1,11 @@
 -- What guests need for their tables, guest by guest, and the first of them that cannot have it.
 use Rattle.std.specs.Prelude.{ℕ, nat_lt, is_none, if◌then◌else◌, List, [], ◌∷◌, length, Option, Some, None}
-use Rattle.dl_base.specs.Maps.{target_of}
-use Rattle.dl_base.specs.Regions.{table_count}
-use Rattle.dl_base.specs.declared.item.Item.{Item}
-use Rattle.dl_base.specs.declared.item.Part.TheVariants as parts
-use Rattle.dl_base.specs.declared.why.Why.{Why}
-use Rattle.dl_base.specs.declared.why.Why.TheVariants.{NoTableFrame}
+use Rattle.described.specs.Maps.{target_of}
+use Rattle.described.specs.Regions.{table_count}
+use Rattle.described.specs.declared.item.Item.{Item}
+use Rattle.described.specs.declared.item.Part.TheVariants as parts
+use Rattle.described.specs.declared.why.Why.{Why}
+use Rattle.described.specs.declared.why.Why.TheVariants.{NoTableFrame}
 use Rattle.frame_alloc.specs.Frames.{lowest_pair}
 use Rattle.stage2_tables.specs.Draws.{free_after}
 use Rattle.domain_plan.specs.declared.planned.GuestPlan.{GuestPlan}

@@ -1,8 +1,8 @@
 -- What walking the images of guests reaches, and where their tables lie.
 use Rattle.std.specs.Prelude.{◌≡◌, ◌≢◌, ◌<◌, ◌/◌, ◌^◌, ℕ, zero, suc, Bool, false, IsTrue, List, [], ◌∷◌, Option, Some, None, option_map, Result, Ok, Err}
-use Rattle.dl_base.specs.Consecutive.{is_in}
-use Rattle.dl_base.specs.Maps.{Target, attributes, target_of}
-use Rattle.dl_base.specs.declared.ranges.Kind.TheVariants.{Shared}
+use Rattle.texts.specs.Consecutive.{is_in}
+use Rattle.described.specs.Maps.{Target, attributes, target_of}
+use Rattle.described.specs.declared.map_range.Kind.TheVariants.{Shared}
 use Rattle.frame_alloc.specs.Frames.{AreFrames}
 use Rattle.stage2_walk.specs.Pages.{Page, frames_of}
 use Rattle.stage2_walk.specs.Files.{image_of}

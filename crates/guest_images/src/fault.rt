@@ -2,7 +2,7 @@
 ghost use Rattle.std.specs.Prelude.{◌≡◌};
 ghost use Rattle.guest_images.specs.declared.fault.ImagesFault.TheVariants.{Memory};
 
-use dl_base::{Item, Why};
+use described::{Item, Why};
 use std::alloc::{AllocError, AllocFailed};
 
 /// Why no images are built.

@@ -1,16 +1,17 @@
 //! The image of one guest.
 ghost use Rattle.std.specs.Prelude.{◌≡◌, ◌⊎◌, IfErr, IfOk, None, OnOk, Some};
-ghost use Rattle.dl_base.specs.Maps.{AreMapRanges, AreMerged};
+ghost use Rattle.described.specs.Maps.{AreMapRanges, AreMerged};
 ghost use Rattle.guest_images.specs.PrivateImageFiles.{IsImageFile};
 ghost use Rattle.guest_images.specs.Requests.{left_by, no_table_frame, tables_item, tables_needed};
 
 use crate::fault::ImagesFault;
 use crate::images::GuestImage;
-use dl_base::{Bytes, Item, Part, Why};
+use described::{Item, Part, Why};
 use domain_plan::GuestPlan;
 use frame_alloc::FramePool;
 use stage2_tables::{TableFault, build_tables};
 use std::alloc::{AllocError, Global};
+use texts::Bytes;
 
 /// The image of a guest, its tables in frames of the pool.
 pub(crate) fn build_image(

@@ -1,6 +1,6 @@
 //! The images of guests, one after the other from one pool.
 ghost use Rattle.std.specs.Prelude.{◌≡◌, All, Bool, IfErr, IfOk, None, OnOk, ℕ, map};
-ghost use Rattle.dl_base.specs.Maps.{AreMapRanges, AreMerged};
+ghost use Rattle.described.specs.Maps.{AreMapRanges, AreMerged};
 ghost use Rattle.guest_images.specs.Built.{files_in, tables_counted};
 ghost use Rattle.guest_images.specs.Faults.{IsFaultOf};
 ghost use Rattle.guest_images.specs.Images.{least_files};
@@ -9,10 +9,10 @@ ghost use Rattle.guest_images.specs.Walks.{AllWalk, AreApart, ArePlannedApart, M
 
 use crate::fault::ImagesFault;
 use crate::image::build_image;
-use dl_base::{Bytes, List};
 use domain_plan::GuestPlan;
 use frame_alloc::FramePool;
 use std::alloc::Global;
+use texts::{Bytes, List};
 
 /// The image of a guest.
 #[derive(Drop)]

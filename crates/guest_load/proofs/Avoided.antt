@@ -1,9 +1,9 @@
 -- A guest's parts call for no audit: neither reading them nor loading them refuses because images differ.
 use Rattle.std.proofs.Common.{◌≡◌, ℕ, List, length, inl, inr}
 use Rattle.std.specs.Prelude.{Option, Some, None, Ok}
-use Rattle.dl_base.specs.Outside.{File}
-use Rattle.dl_base.specs.declared.status.Status.{Status}
-use Rattle.dl_base.specs.declared.status.Status.TheVariants as statuses
+use Rattle.outside.specs.Outside.{File}
+use Rattle.outside.specs.declared.status.Status.{Status}
+use Rattle.outside.specs.declared.status.Status.TheVariants as statuses
 use Rattle.run_steps.specs.Endings.{Refuses}
 use Rattle.run_steps.specs.Steps.{IsRefusal, IsReading, OnOption, AfterReading, IsSize, AfterSize}
 use Rattle.run_steps.specs.Trees.{FlatTree, AfterTreeFile, IsTreeFile}

@@ -4,7 +4,7 @@ use Rattle.std.specs.Prelude.{IfSome, option_and_then}
 use Rattle.std.specs.Option.{ForSome}
 use Rattle.std.proofs.lemmas.Bool.{eq-eqb, ne_eqb}
 use Rattle.std.proofs.Math.Nat.{div-eq-sub-div, div-eq_of_lt}
-use Rattle.dl_base.specs.declared.ranges.BaseSize.{BaseSize}
+use Rattle.texts.specs.declared.ranges.BaseSize.{BaseSize}
 use Rattle.fdt_tree.specs.Tree.{Bytes, Place}
 use Rattle.fdt_tree.specs.Document.{Document, IsNumbering, place_of, next_place, if_there}
 use Rattle.fdt_nodes.specs.Nodes.{Node, children, node_at}

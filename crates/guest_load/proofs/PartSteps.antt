@@ -1,8 +1,8 @@
 -- Reading the parts are steps.
 use Rattle.std.proofs.Common.{◌≡◌, ap, sym, subst, refl, ℕ, List, length}
 use Rattle.std.specs.Prelude.{Option, Some, None, Ok}
-use Rattle.dl_base.specs.Outside.{File}
-use Rattle.dl_base.specs.declared.status.Status.TheVariants as statuses
+use Rattle.outside.specs.Outside.{File}
+use Rattle.outside.specs.declared.status.Status.TheVariants as statuses
 use Rattle.run_steps.specs.Endings.{Outcome}
 use Rattle.run_steps.specs.Steps.{IsRefusal, IsReading, AfterReading, IsSize, AfterSize, nothing}
 use Rattle.run_steps.specs.Trees.{FlatTree, AfterTreeFile, IsTreeFile}

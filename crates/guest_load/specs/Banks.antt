@@ -1,7 +1,7 @@
 -- The first bank of a guest: the first memory of its device tree.
 use Rattle.std.specs.Prelude.{ℕ, ◌+◌, ◌^◌, ◌==◌, ◌||◌, Bool, nat_le, not, List, [], ◌∷◌, Option, Some, None, if◌then◌else◌, flat_map, option_and_then, codes}
 use Rattle.std.specs.Option.{option_map_or}
-use Rattle.dl_base.specs.declared.ranges.BaseSize.{BaseSize}
+use Rattle.texts.specs.declared.ranges.BaseSize.{BaseSize}
 use Rattle.fdt_tree.specs.Tree.{Bytes, Tree, property_of}
 use Rattle.fdt_nodes.specs.Nodes.{Node, root_of, children}
 use Rattle.fdt_nodes.specs.Entries.{region_cells, is_whole, regions}

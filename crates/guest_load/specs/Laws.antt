@@ -1,6 +1,6 @@
 -- The words and the files call for one outcome.
 use Rattle.std.specs.Prelude.{ℕ, List}
-use Rattle.dl_base.specs.Outside.{File}
+use Rattle.outside.specs.Outside.{File}
 use Rattle.run_steps.specs.Laws.{IsDetermined}
 use Rattle.guest_load.specs.Job.{IsJob}
 

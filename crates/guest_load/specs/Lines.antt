@@ -1,6 +1,6 @@
 -- What a run says: messages on `err`, each on one line behind the program's name, and the report on `out`.
 use Rattle.std.specs.Prelude.{ℕ, ◌-◌, ◌^◌, min, List, ◌++◌, flat_map, codes, decimal}
-use Rattle.dl_base.specs.NumberTexts.{hexadecimal}
+use Rattle.texts.specs.NumberTexts.{hexadecimal}
 use Rattle.run_steps.specs.Messages as messages
 use Rattle.guest_load.specs.declared.places.Place.{Place}
 use Rattle.guest_load.specs.declared.places.LoadPlan.{LoadPlan}

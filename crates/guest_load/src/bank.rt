@@ -5,9 +5,9 @@ ghost use Rattle.guest_load.specs.Banks.{whole_entries, memory_of, memories, ban
 ghost use Rattle.guest_load.specs.LoadPlaces.{end_of};
 
 use crate::places::Place;
-use dl_base::BaseSize;
 use fdt_nodes::{is_memory, own_cells, region};
 use fdt_tree::{NodeId, Tree};
+use texts::BaseSize;
 
 /// The first entry of some bytes, where they are whole entries.
 fn first_entry(bytes: &[u8], cells: (u32, u32)) -> Option<BaseSize>

@@ -3,9 +3,9 @@ ghost use Rattle.std.specs.Prelude.{◌≡◌, ◌-◌, ◌^◌, ◌++◌, min, 
 ghost use Rattle.guest_load.specs.Lines.{no_room_message, part_line, part_text, report, too_long_message};
 
 use crate::places::{LoadPart, LoadPlan, Place};
-use dl_base::Bytes;
 use run_steps::make_file_message;
 use std::alloc::{AllocError, Global};
+use texts::Bytes;
 
 /// The name of a part.
 fn part_text(part: LoadPart) -> &'static str

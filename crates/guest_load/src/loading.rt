@@ -17,11 +17,12 @@ use crate::lines::{make_no_room_message, make_report, make_too_long_message};
 use crate::parts::Parts;
 use crate::places::{LoadPlan, NoRoom, Place, load_plan};
 use crate::started::start_tree;
-use dl_base::{Bytes, List, Status, Text};
 use fdt_read::Flat;
 use fdt_write::{WriteFault, write};
+use outside::Status;
 use run_steps::{Build, Output, Stop};
 use std::alloc::{AllocError, Global};
+use texts::{Bytes, List, Text};
 
 /// The place of a ramdisk of so many bytes, where there is one; any low place where the kernel or the ramdisk has no room.
 fn place_ramdisk(bank: Place, head: ImageHead, kernel: u64, ramdisk: Option<u64>) -> Option<Place>

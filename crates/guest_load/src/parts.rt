@@ -14,7 +14,7 @@ use crate::bank::first_bank;
 use crate::head::{ImageHead, read_head};
 use crate::places::Place;
 use crate::words::Asked;
-use dl_base::{Files, Status};
+use outside::{Files, Status};
 use run_steps::{Stop, TreeFile, make_file_message, measure, read_file, read_tree};
 use std::alloc::Global;
 

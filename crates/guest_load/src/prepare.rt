@@ -8,7 +8,7 @@ ghost use Rattle.guest_load.specs.PrivateMeant.{meant};
 use crate::loading::load_parts;
 use crate::parts::read_parts;
 use crate::words::Asked;
-use dl_base::Files;
+use outside::Files;
 use run_steps::{Build, Stop};
 use std::alloc::Global;
 

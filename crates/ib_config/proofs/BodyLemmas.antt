@@ -2,7 +2,7 @@
 use Rattle.std.proofs.Common.{◌≡◌, ℕ, Bool, true, false, cond, not, ◌&&◌, List, [], ◌∷◌, refl, ap, ◌∙◌, Ok, Err, Some, None}
 use Rattle.std.specs.Prelude.{Result, Option}
 use Rattle.std.specs.Str.{is_utf8}
-use Rattle.dl_base.specs.Rows.{first_that_applies}
+use Rattle.texts.specs.Rows.{first_that_applies}
 use Rattle.ib_config.specs.Settings.{◌>>=◌}
 use Rattle.ib_config.specs.Line.{Assignment, body_faults, body_of, says_nothing, line_fault, assignment_of, has_bracket, has_index, has_name, after_name, name_of, value_part, value_of_part, is_open, is_plain_part, is_unsupported, index_of, assigned_by}
 use Rattle.ib_config.specs.PrivateScan.{unless, line_read, body_read, body_steps, index_read, part_read}

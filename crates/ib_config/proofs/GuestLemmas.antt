@@ -4,8 +4,8 @@ use Rattle.std.specs.Prelude.{Result, nat_lt}
 use Rattle.std.specs.List.{list_all}
 use Rattle.std.proofs.lemmas.Bool.{cases_Bool}
 use Rattle.std.proofs.lemmas.Bool.Decides.{nat_tests}
-use Rattle.dl_base.specs.Consecutive.{numbers}
-use Rattle.dl_base.proofs.NumberLists.{numbers-zero, numbers-cons, length-map-numbers, get_or-map-numbers, map-numbers-more, length-numbers}
+use Rattle.texts.specs.Consecutive.{numbers}
+use Rattle.texts.proofs.NumberLists.{numbers-zero, numbers-cons, length-map-numbers, get_or-map-numbers, map-numbers-more, length-numbers}
 use Rattle.std.proofs.lemmas.Option.{slice_get-get_or}
 use Rattle.ib_config.specs.Rules.{is_linked}
 use Rattle.ib_config.specs.Settings.{◌>>=◌, each, IsFault}

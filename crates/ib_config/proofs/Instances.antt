@@ -5,7 +5,7 @@ use Rattle.std.specs.Str.{is_utf8, chars}
 use Rattle.std.specs.Fmt.{digits}
 use Rattle.ib_config.specs.Line.{is_tail, is_plain, is_bare, is_name_byte, is_name_start, is_letter, is_blank, is_digit, says_nothing, has_name, has_index, is_unsupported, line_fault, assignment_of, assignments_of}
 use Rattle.ib_config.specs.Variables.{value_of}
-use Rattle.dl_base.specs.Consecutive.{numbers}
+use Rattle.texts.specs.Consecutive.{numbers}
 use Rattle.ib_config.specs.Settings.{config_of, settings_of, guest_settings, is_one_of}
 use Rattle.ib_config.specs.declared.fault.ConfigFault.TheVariants.{NotUtf8, BadName, BadIndex, OpenQuote, NotPlain, Unsupported, Missing, BadValue, TooMany}
 

@@ -8,7 +8,7 @@ use Rattle.std.specs.Str.{is_utf8}
 use Rattle.std.proofs.lemmas.Bool.{and_parts, cases_Bool}
 use Rattle.std.proofs.lemmas.Bool.Decides.{nat_tests}
 use Rattle.std.proofs.lemmas.Str.{is_utf8-from_IsUtf8, IsUtf8-from_is_utf8}
-use Rattle.dl_base.specs.NumberTexts.{is_hexadecimal, number_in}
+use Rattle.texts.specs.NumberTexts.{is_hexadecimal, number_in}
 use Rattle.ib_config.specs.Rules.{number}
 use Rattle.ib_config.proofs.TextLemmas.{class_is_text}
 

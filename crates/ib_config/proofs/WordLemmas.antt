@@ -11,7 +11,7 @@ use Rattle.ib_config.specs.Rules.{◌>>=◌, words_of, number, number_between, r
 use Rattle.ib_config.specs.PrivateWords.{is_space, not_space, from_word, word_at, after_word, onto}
 use Rattle.ib_config.proofs.RunLemmas.{length-after_run}
 use Rattle.ib_config.proofs.TextLemmas.{class_is_text}
-use Rattle.dl_base.specs.declared.ranges.BaseSize.{BaseSize}
+use Rattle.texts.specs.declared.ranges.BaseSize.{BaseSize}
 use Rattle.ib_config.specs.declared.groups.ShmGroup.{ShmGroup}
 use Rattle.ib_config.specs.declared.groups.PortGroup.{PortGroup}
 

@@ -6,7 +6,7 @@ use Rattle.std.specs.Option.{option_or}
 use Rattle.std.specs.Str.{is_utf8}
 use Rattle.std.specs.Str.Lines.{strip_carriage_return}
 use Rattle.std.specs.Str.Parse.{digits_value}
-use Rattle.dl_base.specs.Rows.{first_that_applies}
+use Rattle.texts.specs.Rows.{first_that_applies}
 use Rattle.ib_config.specs.Runs.{run_of, after_run, first_is, is_empty}
 use Rattle.ib_config.specs.declared.assignments.Key.{Key}
 use Rattle.ib_config.specs.declared.fault.ConfigFault.{ConfigFault}

@@ -9,7 +9,7 @@ use Rattle.std.specs.List.{list_any}
 use Rattle.ib_config.specs.declared.groups.PortGroup.{PortGroup}
 use Rattle.ib_config.specs.declared.assignments.Key.{Key}
 use Rattle.ib_config.specs.PrivateWords.{is_space}
-use Rattle.dl_base.specs.Rows.{first_that_applies}
+use Rattle.texts.specs.Rows.{first_that_applies}
 use Rattle.ib_config.specs.Runs.{run_of, after_run}
 use Rattle.ib_config.specs.Variables.{Assigned, assigned_in, same_key}
 use Rattle.ib_config.specs.Settings.{◌>>=◌}

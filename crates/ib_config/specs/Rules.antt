@@ -2,8 +2,8 @@
 use Rattle.std.specs.Prelude.{ℕ, ◌^◌, Bool, not, ◌&&◌, ◌||◌, List, [], ◌∷◌, length, Option, Some, None, unwrap_or, option_and_then, ◌-◌, nat_le, nat_lt, ◌==◌, if◌then◌else◌, codes, filter}
 use Rattle.std.specs.List.{list_all, list_any, slice_split}
 use Rattle.std.specs.Result.{result_ok}
-use Rattle.dl_base.specs.declared.ranges.BaseSize.{BaseSize}
-use Rattle.dl_base.specs.NumberTexts.{number_of}
+use Rattle.texts.specs.declared.ranges.BaseSize.{BaseSize}
+use Rattle.texts.specs.NumberTexts.{number_of}
 use Rattle.ib_config.specs.Runs.{is_empty}
 use Rattle.ib_config.specs.Line.{is_letter, is_digit}
 use Rattle.ib_config.specs.declared.groups.ShmGroup.{ShmGroup}

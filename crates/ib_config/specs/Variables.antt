@@ -2,7 +2,7 @@
 use Rattle.std.specs.Prelude.{ℕ, ◌^◌, Bool, true, false, not, ◌&&◌, List, [], ◌∷◌, filter, Option, Some, None, Result, Ok, Err, ok_or, unwrap_or, option_map, option_and_then, nat_lt, nat_eq, if◌then◌else◌, codes, bytes_eq}
 use Rattle.std.specs.Option.{option_eq, option_or, option_map_or}
 use Rattle.std.specs.Result.{result_map_both}
-use Rattle.dl_base.specs.declared.ranges.BaseSize.{BaseSize}
+use Rattle.texts.specs.declared.ranges.BaseSize.{BaseSize}
 use Rattle.ib_config.specs.Runs.{is_empty}
 use Rattle.ib_config.specs.Line.{Assignment}
 use Rattle.ib_config.specs.Rules.{number, number_between, flag, file_name, static_ranges, shared_regions, event_channels}

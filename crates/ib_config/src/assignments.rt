@@ -9,10 +9,10 @@ ghost use Rattle.ib_config.specs.PrivateScan.{held, nothing_assigned, assign, as
 use crate::classes::{Class, split_run};
 use crate::fault::ConfigFault;
 use crate::lines::{Found, read_line, skip_one};
-use dl_base::Text;
 use indexmap::IndexMap;
 use std::alloc::{AllocError, Global};
 use std::marker::Model;
+use texts::Text;
 
 /// A variable: its name, and the index that it has, if any.
 #[derive(Debug, PartialEq, Eq, Hash, Drop)]

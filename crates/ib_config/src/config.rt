@@ -8,9 +8,9 @@ use crate::fault::ConfigFault;
 use crate::groups::{PortGroup, ShmGroup};
 use crate::guests::Guest;
 use crate::settings::{Settings, read_settings};
-use dl_base::{BaseSize, List, Text};
 use std::alloc::Global;
 use std::marker::Model;
+use texts::{BaseSize, List, Text};
 
 /// What a configuration says: each variable's value, with its default.
 #[derive(Debug, Drop)]

@@ -2,8 +2,8 @@
 ghost use Rattle.std.specs.Prelude.{◌≡◌};
 ghost use Rattle.ib_config.specs.declared.fault.ConfigFault.TheVariants.{Memory};
 
-use dl_base::Text;
 use std::alloc::{AllocError, AllocFailed};
+use texts::Text;
 
 /// Why a configuration is refused: a line at fault by its number, counted from 1, or a variable by its name and its
 /// index, which is 0 for a variable without one.

@@ -8,8 +8,8 @@ use crate::assignments::copy_text;
 use crate::classes::{Class, is_digit_byte, is_letter_byte, split_run};
 use crate::lines::as_text;
 use crate::values::{number, number_between};
-use dl_base::{BaseSize, List, Text};
 use std::alloc::{AllocError, Global};
+use texts::{BaseSize, List, Text};
 
 /// A memory region that guests share: its id, the host and the guest address of its first byte, and its size in bytes.
 #[derive(Debug, Drop)]

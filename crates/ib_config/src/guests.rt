@@ -2,7 +2,7 @@
 ghost use Rattle.std.specs.Prelude.{◌≡◌, ◌≤◌, ◌<◌, IfOk, OnOk, map, length, ◌++◌, ◌∷◌, [], Some, None, unwrap_or, true, false, is_some, ◌==◌};
 ghost use Rattle.std.specs.Option.{option_copied};
 ghost use Rattle.std.specs.List.{list_all, list_any};
-ghost use Rattle.dl_base.specs.Consecutive.{numbers};
+ghost use Rattle.texts.specs.Consecutive.{numbers};
 ghost use Rattle.ib_config.specs.Rules.{ports_of, is_linked as is_linked_to};
 ghost use Rattle.ib_config.specs.Variables as table;
 ghost use Rattle.ib_config.specs.Variables.{value_of};
@@ -15,8 +15,8 @@ use crate::groups::{PortGroup, ShmGroup, read_ports, read_ranges, read_regions};
 use crate::variables::{
     bad_value, flag_or_set, number_or, optional_file, optional_number, optional_text, required_file,
 };
-use dl_base::{BaseSize, List, Text};
 use std::alloc::{AllocError, Global};
+use texts::{BaseSize, List, Text};
 
 /// What a configuration says of one guest.
 #[derive(Debug, Drop)]

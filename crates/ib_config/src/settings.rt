@@ -10,8 +10,8 @@ use crate::unused::read_unused;
 use crate::variables::{
     guest_count, optional_file, optional_text, required_file, required_number, text_or,
 };
-use dl_base::{List, Text};
 use std::alloc::Global;
+use texts::{List, Text};
 
 /// What a configuration says.
 #[derive(Debug, Drop)]

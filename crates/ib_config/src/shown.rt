@@ -4,8 +4,8 @@ ghost use Rattle.ib_config.specs.FaultTexts.{variable, fault_text, named_fault_t
 
 use crate::fault::ConfigFault;
 use crate::names::name_on_line;
-use dl_base::Bytes;
 use std::alloc::{AllocError, Global};
+use texts::Bytes;
 
 fn append_number(
     alloc: Global,

@@ -5,8 +5,8 @@ ghost use Rattle.ib_config.specs.PrivateScan.{held};
 
 use crate::assignments::{Assignments, Key, copy_text};
 use crate::guests::is_static;
-use dl_base::{List, Text};
 use std::alloc::{AllocError, Global};
+use texts::{List, Text};
 
 /// Whether a name is a variable without index.
 #[tactic(auto, unfolding(crate::specs::Settings::is_one_of))]

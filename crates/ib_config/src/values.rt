@@ -7,8 +7,8 @@ ghost use Rattle.ib_config.specs.Rules.{is_file_byte, is_id_byte};
 use crate::assignments::copy_text;
 use crate::classes::{is_digit_byte, is_letter_byte};
 use crate::lines::{as_text, is_text};
-use dl_base::{Text, read_number};
 use std::alloc::{AllocError, Global};
+use texts::{Text, read_number};
 
 /// The number below 2^64 that a word spells.
 #[tactic(auto, using(crate::proofs::NumberLemmas::number_lemmas))]

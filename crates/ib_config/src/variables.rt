@@ -11,8 +11,8 @@ ghost use Rattle.ib_config.specs.declared.fault.ConfigFault.TheVariants as fault
 use crate::assignments::{Assignments, copy_text};
 use crate::fault::ConfigFault;
 use crate::values::{file_name, flag, number, number_between};
-use dl_base::Text;
 use std::alloc::{AllocError, Global};
+use texts::Text;
 
 /// That a variable is missing.
 pub(crate) fn missing<T: Drop>(

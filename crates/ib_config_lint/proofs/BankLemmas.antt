@@ -3,7 +3,7 @@ use Rattle.std.proofs.Common.{◌≡◌, ℕ, ◌+◌, ◌<◌, ◌≤◌, Bool,
 use Rattle.std.specs.Prelude.{nat_lt}
 use Rattle.std.proofs.lemmas.Bool.Decides.{nat_tests}
 use Rattle.std.proofs.lemmas.List.{drop_more}
-use Rattle.dl_base.specs.declared.ranges.BaseSize.{BaseSize}
+use Rattle.texts.specs.declared.ranges.BaseSize.{BaseSize}
 use Rattle.ib_config_lint.specs.Rows.{crosses_behind}
 
 -- a range that fits

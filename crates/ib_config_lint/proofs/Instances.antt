@@ -1,8 +1,8 @@
 -- Small configurations, as the rows read them.
 use Rattle.std.proofs.Common.{◌≡◌, ℕ, Bool, List, [], ◌∷◌, refl, Some, None, true, false, map}
 use Rattle.std.specs.Prelude.{Option, codes}
-use Rattle.dl_base.specs.Consecutive.{numbers}
-use Rattle.dl_base.specs.declared.ranges.BaseSize.{BaseSize}
+use Rattle.texts.specs.Consecutive.{numbers}
+use Rattle.texts.specs.declared.ranges.BaseSize.{BaseSize}
 use Rattle.ib_config.specs.declared.groups.PortGroup.{PortGroup}
 use Rattle.ib_config.specs.declared.guests.Guest.{Guest}
 use Rattle.ib_config.specs.declared.settings.Settings.{Settings}

@@ -1,7 +1,7 @@
 -- What U-Boot 2023.01 and Xen 4.17 trip over in a variable's value: each row with what was seen under an emulator.
 use Rattle.std.specs.Prelude.{ℕ, ◌+◌, Bool, false, not, ◌&&◌, ◌||◌, ◌==◌, List, [], ◌∷◌, length, nat_lt, is_none}
 use Rattle.std.specs.List.{list_any}
-use Rattle.dl_base.specs.declared.ranges.BaseSize.{BaseSize}
+use Rattle.texts.specs.declared.ranges.BaseSize.{BaseSize}
 use Rattle.ib_config.specs.Runs.{first_is, is_empty}
 use Rattle.ib_config.specs.declared.groups.PortGroup.{PortGroup}
 use Rattle.ib_config.specs.declared.guests.Guest.{Guest}

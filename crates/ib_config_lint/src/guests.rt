@@ -5,9 +5,9 @@ ghost use Rattle.ib_config_lint.specs.Warnings.{kernel_warnings, memory_warnings
 use crate::configuration::{add_file, add_optional_file, add_optional_text, add_where};
 use crate::rows::{crosses, has_high_port, has_many_ranges, lacks_memory};
 use crate::warning::{Trouble, Variable, Warning};
-use dl_base::List;
 use ib_config::Config;
 use std::alloc::AllocError;
+use texts::List;
 
 /// Adds the rows of a guest's files and its command line.
 #[tactic(auto, unfolding(crate::specs::Warnings::kernel_warnings))]

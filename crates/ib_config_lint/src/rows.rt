@@ -3,8 +3,8 @@ ghost use Rattle.std.specs.Prelude.{◌≡◌, ◌&&◌, not, is_none, length, n
 ghost use Rattle.ib_config.specs.Runs.{is_empty};
 ghost use Rattle.ib_config_lint.specs.Rows as rows;
 
-use dl_base::BaseSize;
 use ib_config::PortGroup;
+use texts::BaseSize;
 
 /// Whether a text has a `'`.
 pub(crate) fn has_quote(text: &str) -> bool

@@ -1,7 +1,7 @@
 -- Lines that were added one after the other.
 use Rattle.std.proofs.Common.{◌≡◌, ℕ, Bool, List, ◌++◌, length, map, option_map, append_assoc, Some, None}
 use Rattle.std.specs.Prelude.{Option, IfSome, codes, decimal}
-use Rattle.dl_base.specs.declared.ranges.BaseSize.{BaseSize}
+use Rattle.texts.specs.declared.ranges.BaseSize.{BaseSize}
 use Rattle.ib_config.specs.declared.groups.PortGroup.{PortGroup}
 use Rattle.ib_config.specs.declared.groups.ShmGroup.{ShmGroup}
 use Rattle.ib_config.specs.declared.guests.Guest.{Guest}

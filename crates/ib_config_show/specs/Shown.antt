@@ -1,7 +1,7 @@
 -- What a configuration says, as lines.
 use Rattle.std.specs.Prelude.{ℕ, Bool, List, ◌∷◌, ◌++◌, Some, None, codes, decimal, length, map, option_map, []}
 use Rattle.std.specs.List.{flat_map, enumerate_from}
-use Rattle.dl_base.specs.declared.ranges.BaseSize.{BaseSize}
+use Rattle.texts.specs.declared.ranges.BaseSize.{BaseSize}
 use Rattle.ib_config.specs.declared.guests.Guest.{Guest}
 use Rattle.ib_config.specs.declared.settings.Settings.{Settings}
 use Rattle.ib_config_show.specs.Lines.{line, optional_line, groups_line, switch, unused_line}

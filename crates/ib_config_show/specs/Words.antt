@@ -2,7 +2,7 @@
 use Rattle.std.specs.Prelude.{ℕ, false, List, [], ◌∷◌, ◌++◌, codes, decimal}
 use Rattle.std.specs.List.{flat_map}
 use Rattle.std.specs.Fmt.{digits}
-use Rattle.dl_base.specs.declared.ranges.BaseSize.{BaseSize}
+use Rattle.texts.specs.declared.ranges.BaseSize.{BaseSize}
 use Rattle.ib_config.specs.declared.groups.PortGroup.{PortGroup}
 use Rattle.ib_config.specs.declared.groups.ShmGroup.{ShmGroup}
 

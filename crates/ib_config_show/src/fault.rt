@@ -2,9 +2,9 @@
 ghost use Rattle.std.specs.Prelude.{◌≡◌, IfOk};
 ghost use Rattle.ib_config_show.specs.Answers.{fault_line};
 
-use dl_base::Bytes;
 use ib_config::ConfigFault;
 use std::alloc::{AllocError, Global};
+use texts::Bytes;
 
 /// The line of a fault of a file: its text, that of a name that is not supported with the name, and a line feed.
 pub(crate) fn show_fault(

@@ -4,9 +4,9 @@ ghost use Rattle.ib_config_show.specs.Lines.{optional_line};
 ghost use Rattle.ib_config_show.specs.Shown.{kernel_lines, machine_lines, direct_line, static_lines, shared_lines, guest_lines};
 
 use crate::line::{put_list, put_number, put_optional, put_switch, put_text};
-use dl_base::BaseSize;
 use ib_config::Config;
 use std::alloc::AllocError;
+use texts::BaseSize;
 
 #[tactic(auto, unfolding(crate::specs::Shown::kernel_lines))]
 fn put_kernel(out: &mut String, config: &Config, guest: u32) -> Result<(), AllocError>

@@ -6,8 +6,8 @@ ghost use Rattle.ib_config_show.specs.Lines.{line, optional_line, groups_line, s
 ghost use Rattle.ib_config_show.specs.Words.{hex};
 
 use crate::word::{Words, put_groups};
-use dl_base::{List, Text};
 use std::alloc::AllocError;
+use texts::{List, Text};
 
 /// Adds NAME or NAME[INDEX] to a text.
 fn put_name(out: &mut String, name: &str, index: Option<u32>) -> Result<(), AllocError>

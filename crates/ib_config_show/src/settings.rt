@@ -6,9 +6,9 @@ ghost use Rattle.ib_config_show.specs.Shown.{host_lines, domain_lines, guests_li
 
 use crate::guest::put_guest;
 use crate::line::{put_address, put_number, put_optional, put_text, put_unused};
-use dl_base::Text;
 use ib_config::Config;
 use std::alloc::{AllocError, Global};
+use texts::Text;
 
 #[tactic(auto, unfolding(crate::specs::Shown::host_lines))]
 fn put_host(out: &mut String, config: &Config) -> Result<(), AllocError>

@@ -2,9 +2,9 @@
 ghost use Rattle.std.specs.Prelude.{◌≡◌, ◌++◌, List, ℕ, OnOk, map, string_bytes};
 ghost use Rattle.ib_config_show.specs.Words.{range_words, shm_words, port_words, spaced, joined};
 
-use dl_base::BaseSize;
 use ib_config::{PortGroup, ShmGroup};
 use std::alloc::AllocError;
+use texts::BaseSize;
 
 /// A group of the words of a value.
 pub(crate) trait Words {

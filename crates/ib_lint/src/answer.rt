@@ -5,11 +5,11 @@ ghost use Rattle.ib_config.specs.Settings.{config_of};
 ghost use Rattle.ib_config_lint.specs.Warnings.{warnings};
 ghost use Rattle.ib_lint.specs.Answers.{lines, is_clean as clean, fault_line, OnWarnings, OnFaults};
 
-use dl_base::Bytes;
 use ib_config::{Config, ConfigFault, read_config};
 use ib_config_lint::{Warning, lint};
 use std::alloc::{AllocError, Global};
 use std::io::{self, Write};
+use texts::Bytes;
 
 /// What a file comes to.
 #[derive(Clone, Copy, Debug)]

@@ -4,9 +4,9 @@ ghost use Rattle.std.specs.Option.{option_copied};
 ghost use Rattle.std.specs.List.{flat_map};
 ghost use Rattle.ib_placement.specs.Placement.{guest_files, files_of};
 
-use dl_base::{List, Text};
 use ib_config::Config;
 use std::alloc::{AllocError, Global};
+use texts::{List, Text};
 
 /// The names of a configuration's files, in the order in which they are placed: Xen, dom0's kernel and ramdisk, each
 /// guest's kernel, ramdisk and partial device tree, and the host's device tree. A file that is not set is left out.

@@ -6,10 +6,10 @@ ghost use Rattle.ib_placement.specs.Apart.{LieBetween};
 ghost use Rattle.ib_placement.specs.declared.places.PlaceFault.TheVariants.{Memory};
 
 use crate::order::files;
-use dl_base::{List, Text};
 use ib_config::Config;
 use std::alloc::{AllocError, Global};
 use std::collections::VecDeque;
+use texts::{List, Text};
 
 /// Where a file is loaded.
 #[derive(Debug, Drop)]

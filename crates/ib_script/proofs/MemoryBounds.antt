@@ -5,7 +5,7 @@ use Rattle.std.specs.Option.{option_map_or}
 use Rattle.std.specs.Result.{result_map_both}
 use Rattle.std.proofs.lemmas.Bool.{and_parts, cases_Bool}
 use Rattle.std.proofs.lemmas.Bool.Decides.{nat_tests}
-use Rattle.dl_base.specs.Consecutive.{numbers}
+use Rattle.texts.specs.Consecutive.{numbers}
 use Rattle.ib_config.specs.Rules.{number, number_between, where_true}
 use Rattle.ib_config.specs.Line.{lines_of, first_line_fault, assignments_of}
 use Rattle.ib_config.specs.Variables as table

@@ -1,7 +1,7 @@
 -- The nodes of guests (Xen, docs/misc/arm/device-tree/booting.txt, "Creating Multiple Domains directly from Xen").
 use Rattle.std.specs.Prelude.{ℕ, ◌+◌, ◌*◌, Bool, not, is_some, List, [], ◌∷◌, ◌++◌, length, drop, Option, codes}
 use Rattle.std.specs.List.{flat_map, enumerate_from}
-use Rattle.dl_base.specs.declared.ranges.BaseSize.{BaseSize}
+use Rattle.texts.specs.declared.ranges.BaseSize.{BaseSize}
 use Rattle.ib_config.specs.Runs.{is_empty}
 use Rattle.ib_config.specs.declared.groups.PortGroup.{PortGroup}
 use Rattle.ib_config.specs.declared.groups.ShmGroup.{ShmGroup}

@@ -2,7 +2,7 @@
 use Rattle.std.specs.Prelude.{ℕ, ◌/◌, ◌%◌, false, List, [], ◌∷◌, ◌++◌, map, ◌==◌, if◌then◌else◌, codes}
 use Rattle.std.specs.List.{flat_map}
 use Rattle.std.specs.Fmt.{digit_glyph}
-use Rattle.dl_base.specs.NumberTexts.{hexadecimal}
+use Rattle.texts.specs.NumberTexts.{hexadecimal}
 use Rattle.ib_config.specs.Runs.{first_is, is_empty}
 use Rattle.ib_script.specs.declared.command.Command.{Command}
 use Rattle.ib_script.specs.declared.command.Command.TheVariants.{Load, Addr, Resize, Mknod, Set, SetEnv, Booti}

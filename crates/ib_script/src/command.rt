@@ -1,5 +1,5 @@
 // The commands of a boot script, as U-Boot runs them.
-use dl_base::{Bytes, List, Text};
+use texts::{Bytes, List, Text};
 
 /// A command of a boot script.
 #[derive(Debug, Drop)]

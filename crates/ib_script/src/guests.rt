@@ -12,10 +12,10 @@ use crate::modules::{one_if, place_at, places_behind, put_kernel, put_other_modu
 use crate::phandles::first_phandle;
 use crate::properties::{put_node, put_two_and_two, put_word};
 use crate::texts::{below, numbered};
-use dl_base::{List, Text};
 use ib_config::Config;
 use ib_placement::FilePlace;
 use std::alloc::{AllocError, Global};
+use texts::{List, Text};
 
 /// The path of a guest's node.
 #[tactic(auto, unfolding(crate::specs::Guests::guest_path))]

@@ -4,8 +4,8 @@ ghost use Rattle.ib_script.specs.Text.{line_of_command, text_of};
 
 use crate::command::{Command, Piece};
 use crate::words::{put_optional_word, put_property, put_value};
-use dl_base::List;
 use std::alloc::{AllocError, Global};
+use texts::List;
 
 /// Adds the line that sets a property.
 #[tactic(auto, unfolding(crate::specs::Text::line_of_command, crate::specs::Text::words_of_command))]

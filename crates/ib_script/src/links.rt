@@ -9,9 +9,9 @@ use crate::command::Command;
 use crate::phandles::peer_phandle;
 use crate::properties::{put_cell, put_cells, put_node, put_wide, put_word};
 use crate::texts::{below, numbered};
-use dl_base::List;
 use ib_config::{Config, PortGroup, ShmGroup};
 use std::alloc::{AllocError, Global};
+use texts::List;
 
 /// Adds the commands of a region that a guest shares, the `number`-th.
 fn put_region(

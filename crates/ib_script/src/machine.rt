@@ -6,9 +6,9 @@ ghost use Rattle.ib_script.specs.Properties.{two_cells, cells, on_some};
 
 use crate::command::Command;
 use crate::properties::{push_two, put_cell, put_cells, put_flag_where, put_wide, put_word};
-use dl_base::{BaseSize, List};
 use ib_config::PortGroup;
 use std::alloc::{AllocError, Global};
+use texts::{BaseSize, List};
 
 /// Adds the command of a guest's memory in KiB, if it has memory beside its static memory.
 fn put_memory(

@@ -8,10 +8,10 @@ ghost use Rattle.ib_script.specs.declared.make.MakeFault.TheVariants.{Memory};
 use crate::command::Command;
 use crate::phandles::groups_before;
 use crate::script::put_script;
-use dl_base::List;
 use ib_config::Config;
 use ib_placement::Places;
 use std::alloc::{AllocError, Global};
+use texts::List;
 
 /// What a script depends on in the host's device tree.
 #[derive(Clone, Copy, Debug, PartialEq, Eq)]

@@ -10,9 +10,9 @@ ghost use Rattle.ib_script.specs.PrivateCounts.{dom0_count};
 use crate::command::Command;
 use crate::properties::{put_module, put_optional_word};
 use crate::texts::below;
-use dl_base::{List, Text};
 use ib_placement::FilePlace;
 use std::alloc::{AllocError, Global};
+use texts::{List, Text};
 
 /// One of the places.
 pub(crate) fn place_at(places: &[FilePlace], index: usize) -> &FilePlace

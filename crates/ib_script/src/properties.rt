@@ -6,9 +6,9 @@ ghost use Rattle.ib_script.specs.Properties.{two_cells, cells, word, on, on_some
 
 use crate::command::{Command, Piece};
 use crate::texts::{below, text_of};
-use dl_base::{List, Text};
 use ib_placement::FilePlace;
 use std::alloc::{AllocError, Global};
+use texts::{List, Text};
 
 /// How many values a cell has.
 const CELL: u64 = 1 << 32;

@@ -11,10 +11,10 @@ use crate::guests::put_guests;
 use crate::make::{HostFacts, LoadKind};
 use crate::modules::{one_if, place_at, places_behind, put_dom0};
 use crate::start::{put_chosen, put_loads, put_start, put_tree};
-use dl_base::List;
 use ib_config::Config;
 use ib_placement::FilePlace;
 use std::alloc::{AllocError, Global};
+use texts::List;
 
 /// Adds the commands of dom0 and of the guests, whose files have the first of the places.
 fn put_domains(

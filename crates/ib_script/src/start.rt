@@ -7,9 +7,9 @@ use crate::command::Command;
 use crate::make::LoadKind;
 use crate::properties::{put_node, put_two_and_two, put_word};
 use crate::texts::text_of;
-use dl_base::List;
 use ib_placement::FilePlace;
 use std::alloc::{AllocError, Global};
+use texts::List;
 
 /// The words of the command that loads a file.
 fn load_words(kind: LoadKind) -> &'static str

@@ -2,8 +2,8 @@
 ghost use Rattle.std.specs.Prelude.{◌≡◌, IfOk};
 ghost use Rattle.ib_script.specs.Properties.{below as path_below, numbered as name_numbered};
 
-use dl_base::Text;
 use std::alloc::{AllocError, Global};
+use texts::Text;
 
 /// A text of its own.
 pub(crate) fn text_of(alloc: Global, text: &str) -> Result<Text, AllocError>

@@ -1,6 +1,6 @@
 // The words of a command.
 ghost use Rattle.std.specs.Prelude.{◌≡◌, ◌++◌, ◌∷◌, ◌/◌, ◌%◌, [], map, codes, IfOk, OnOk, string_bytes, if◌then◌else◌};
-ghost use Rattle.dl_base.specs.NumberTexts.{hexadecimal};
+ghost use Rattle.texts.specs.NumberTexts.{hexadecimal};
 ghost use Rattle.ib_config.specs.Runs.{is_empty};
 ghost use Rattle.ib_script.specs.Text.{joined, spaced, two_digits, piece_word, prop_word};
 

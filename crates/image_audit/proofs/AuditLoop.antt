@@ -5,11 +5,11 @@ use Rattle.std.specs.Option.{option_or}
 use Rattle.std.proofs.lemmas.Bool.Decides.{eqb_tells}
 use Rattle.std.proofs.lemmas.List.{take_more, take-append-drop, drop_more}
 use Rattle.std.proofs.lemmas.List.Folds.{list_any-append}
-use Rattle.dl_base.specs.Consecutive.{is_in}
-use Rattle.dl_base.specs.Outside.{File}
-use Rattle.dl_base.specs.declared.files.FileError.{FileError}
-use Rattle.dl_base.specs.declared.ranges.FrameRange.{FrameRange}
-use Rattle.dl_base.specs.declared.ranges.MapRange.{MapRange}
+use Rattle.texts.specs.Consecutive.{is_in}
+use Rattle.outside.specs.Outside.{File}
+use Rattle.outside.specs.declared.files.FileError.{FileError}
+use Rattle.texts.specs.declared.ranges.FrameRange.{FrameRange}
+use Rattle.described.specs.declared.map_range.MapRange.{MapRange}
 use Rattle.frame_alloc.proofs.FreeFrames.{is_in_cons}
 use Rattle.frame_ranges.proofs.CommonFrames.{or_right}
 use Rattle.stage2_walk.specs.Pages.{Page, frames_of}

@@ -1,9 +1,9 @@
 -- The audit of images is a step: what it finds, that it refuses no item, and that over files that are told it calls for one outcome.
 use Rattle.std.proofs.Common.{◌≡◌, refl, sym, subst, ℕ, Bool, List, [], ◌∷◌, ◌++◌, Some, None, inl, inr}
 use Rattle.std.specs.Prelude.{◌⊎◌, Option, Result, Ok, Err}
-use Rattle.dl_base.specs.Outside.{File}
-use Rattle.dl_base.specs.declared.ranges.MapRange.{MapRange}
-use Rattle.dl_base.specs.declared.status.Status.TheVariants as statuses
+use Rattle.outside.specs.Outside.{File}
+use Rattle.described.specs.declared.map_range.MapRange.{MapRange}
+use Rattle.outside.specs.declared.status.Status.TheVariants as statuses
 use Rattle.stage2_walk.specs.Pages.{Page}
 use Rattle.stage2_walk.specs.Files.{image_of}
 use Rattle.stage2_walk.specs.declared.image_fault.ImageFault.{ImageFault}

@@ -6,10 +6,10 @@ use Rattle.std.proofs.lemmas.Bool.{cases_order}
 use Rattle.std.proofs.lemmas.Bool.Decides.{eqb_tells}
 use Rattle.std.proofs.lemmas.List.{map-id}
 use Rattle.std.proofs.lemmas.Option.{none-some, same_Some}
-use Rattle.dl_base.specs.Consecutive.{numbers}
-use Rattle.dl_base.specs.Maps.{AreMapRanges, AreMerged}
-use Rattle.dl_base.specs.declared.ranges.MapRange.{MapRange}
-use Rattle.dl_base.proofs.NumberLists.{find-map-numbers, find-map-numbers-none}
+use Rattle.texts.specs.Consecutive.{numbers}
+use Rattle.described.specs.Maps.{AreMapRanges, AreMerged}
+use Rattle.described.specs.declared.map_range.MapRange.{MapRange}
+use Rattle.texts.proofs.NumberLists.{find-map-numbers, find-map-numbers-none}
 use Rattle.stage2_walk.specs.Pages.{Page}
 use Rattle.stage2_walk.specs.Runs.{PageMap, map_of, mapped_runs}
 use Rattle.stage2_walk.specs.PrivateReads.{IsGap, HasRuns}

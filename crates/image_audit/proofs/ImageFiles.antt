@@ -4,8 +4,8 @@ use Rattle.std.specs.Prelude.{Result, Ok, Err, IsSome, not}
 use Rattle.std.specs.List.{starts_with, prefix_len}
 use Rattle.std.proofs.lemmas.Bool.{false≢true}
 use Rattle.std.proofs.lemmas.Bool.Decides.{nat_tests, eqb_tells}
-use Rattle.dl_base.specs.Consecutive.{is_in}
-use Rattle.dl_base.proofs.RegionLemmas.{both_true}
+use Rattle.texts.specs.Consecutive.{is_in}
+use Rattle.described.proofs.RegionLemmas.{both_true}
 use Rattle.frame_alloc.proofs.FreeFrames.{is_in_nil, is_in_cons}
 use Rattle.stage2_walk.specs.Pages.{Page, frames_of, page_of, number_at, pages_at}
 use Rattle.stage2_walk.specs.Files.{magic, image_of, has_root, first_high, first_repeat, checked, checked_pages, checked_repeat}

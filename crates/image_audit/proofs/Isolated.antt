@@ -8,11 +8,11 @@ use Rattle.std.proofs.lemmas.Bool.Decides.{eqb_tells}
 use Rattle.std.proofs.lemmas.List.Elements.{All-head, All-tail}
 use Rattle.std.proofs.lemmas.Option.{same_Some}
 use Rattle.std.proofs.lemmas.List.Folds.{list_any-append}
-use Rattle.dl_base.specs.Consecutive.{is_in}
-use Rattle.dl_base.specs.Maps.{Target, target_of, holds_page, AreMapRanges, AreMerged}
-use Rattle.dl_base.specs.Outside.{File}
-use Rattle.dl_base.specs.declared.ranges.MapRange.{MapRange}
-use Rattle.dl_base.proofs.RunLemmas.{holds_tells}
+use Rattle.texts.specs.Consecutive.{is_in}
+use Rattle.described.specs.Maps.{Target, target_of, holds_page, AreMapRanges, AreMerged}
+use Rattle.outside.specs.Outside.{File}
+use Rattle.described.specs.declared.map_range.MapRange.{MapRange}
+use Rattle.described.proofs.RunLemmas.{holds_tells}
 use Rattle.frame_alloc.specs.Frames.{is_within}
 use Rattle.frame_alloc.proofs.FreeFrames.{is_in_nil, is_in_cons}
 use Rattle.frame_ranges.proofs.CommonFrames.{within_tells, or_left, or_right, or_none}

@@ -6,10 +6,10 @@ use Rattle.std.proofs.lemmas.Bool.Decides.{eqb_tells}
 use Rattle.std.proofs.lemmas.List.{at_drop_more}
 use Rattle.std.proofs.lemmas.List.Elements.{All-nil, All-cons, All-append, All-head, All-tail}
 use Rattle.std.proofs.lemmas.List.Folds.{list_any-append}
-use Rattle.dl_base.specs.Consecutive.{numbers, is_in}
-use Rattle.dl_base.specs.Maps.{AreMapRanges, AreSortedFrom}
-use Rattle.dl_base.specs.declared.ranges.FrameRange.{FrameRange}
-use Rattle.dl_base.specs.declared.ranges.MapRange.{MapRange}
+use Rattle.texts.specs.Consecutive.{numbers, is_in}
+use Rattle.described.specs.Maps.{AreMapRanges, AreSortedFrom}
+use Rattle.texts.specs.declared.ranges.FrameRange.{FrameRange}
+use Rattle.described.specs.declared.map_range.MapRange.{MapRange}
 use Rattle.frame_alloc.specs.Frames.{AreFrameRanges, frames_in, is_within}
 use Rattle.frame_alloc.proofs.FreeFrames.{is_in_nil, is_in_cons}
 use Rattle.frame_ranges.specs.Ranges.{holds, lie_in}

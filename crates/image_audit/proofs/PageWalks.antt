@@ -1,9 +1,9 @@
 -- Where an address goes is where the first address of its page goes, at the same place in the frame.
 use Rattle.std.proofs.Common.{◌≡◌, ◌∙◌, refl, sym, ap, subst, ℕ, ◌+◌, ◌*◌, ◌/◌, ◌%◌, ◌^◌, ◌<◌, List, Option, Some, None, arith}
 use Rattle.std.specs.Prelude.{option_map}
-use Rattle.dl_base.specs.Regions.{span}
-use Rattle.dl_base.specs.Maps.{Target, attributes, target_of}
-use Rattle.dl_base.specs.declared.ranges.MapRange.{MapRange}
+use Rattle.described.specs.Regions.{span}
+use Rattle.described.specs.Maps.{Target, attributes, target_of}
+use Rattle.described.specs.declared.map_range.MapRange.{MapRange}
 use Rattle.stage2_walk.specs.Pages.{Page, word_in}
 use Rattle.stage2_walk.specs.Descriptors.{meaning}
 use Rattle.stage2_walk.specs.Runs.{map_of, page_goal}

@@ -2,11 +2,11 @@
 use Rattle.std.proofs.Common.{◌≡◌, ◌≢◌, ◌∙◌, refl, sym, ap, subst, ℕ, zero, suc, ◌+◌, ◌-◌, ◌^◌, ◌<◌, ◌≤◌, ◌⊎◌, true, false, List, [], ◌∷◌, map, Option, Some, None, arith, inl, inr}
 use Rattle.std.proofs.lemmas.Bool.{cases_order}
 use Rattle.std.proofs.lemmas.Option.{none-some, same_Some}
-use Rattle.dl_base.specs.Maps.{attributes, holds_page, AreSortedFrom, AreMerged, AreMergedAfter, RunsOn}
-use Rattle.dl_base.specs.declared.ranges.Kind.{Kind}
-use Rattle.dl_base.specs.declared.ranges.Kind.TheVariants.{Ram, Device, Shared}
-use Rattle.dl_base.specs.declared.ranges.MapRange.{MapRange}
-use Rattle.dl_base.proofs.RunLemmas.{holds_tells}
+use Rattle.described.specs.Maps.{attributes, holds_page, AreSortedFrom, AreMerged, AreMergedAfter, RunsOn}
+use Rattle.described.specs.declared.map_range.Kind.{Kind}
+use Rattle.described.specs.declared.map_range.Kind.TheVariants.{Ram, Device, Shared}
+use Rattle.described.specs.declared.map_range.MapRange.{MapRange}
+use Rattle.described.proofs.RunLemmas.{holds_tells}
 use Rattle.stage2_walk.specs.Runs.{PageMap, runs_of}
 use Rattle.stage2_walk.specs.PrivateReads.{IsMapped, HasRuns}
 use Rattle.stage2_walk.specs.JoinedRuns.{with_leaf}

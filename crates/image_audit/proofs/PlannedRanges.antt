@@ -3,8 +3,8 @@ use Rattle.std.proofs.Common.{◌≡◌, ◌∙◌, refl, sym, ap, ℕ, zero, su
 use Rattle.std.specs.Prelude.{nat_lt, find, option_map}
 use Rattle.std.specs.Option.{option_or}
 use Rattle.std.proofs.lemmas.Bool.Decides.{nat_tests}
-use Rattle.dl_base.specs.Maps.{AreMapRanges, AreMerged, AreSortedFrom}
-use Rattle.dl_base.specs.declared.ranges.MapRange.{MapRange}
+use Rattle.described.specs.Maps.{AreMapRanges, AreMerged, AreSortedFrom}
+use Rattle.described.specs.declared.map_range.MapRange.{MapRange}
 use Rattle.stage2_walk.specs.Pages.{Page, frames_of}
 use Rattle.stage2_walk.specs.Runs.{map_of, mapped_runs, page_goal}
 use Rattle.stage2_walk.specs.Walks.{walk, reached}

@@ -2,7 +2,7 @@
 use Rattle.std.proofs.Common.{◌≡◌, ◌∙◌, sym, ap, ap₂, ℕ, Bool, List, Option, Some, None}
 use Rattle.std.specs.Prelude.{Result, Ok, Err, IfOk, option_map}
 use Rattle.std.specs.Option.{option_or}
-use Rattle.dl_base.specs.declared.ranges.MapRange.{MapRange}
+use Rattle.described.specs.declared.map_range.MapRange.{MapRange}
 use Rattle.stage2_walk.specs.Pages.{Page}
 use Rattle.stage2_walk.specs.Tears.{first_tear}
 use Rattle.stage2_walk.specs.declared.audit_fault.AuditFault.{AuditFault}

@@ -1,10 +1,10 @@
 -- The audit of the images of a plan's guests, as a step of a run.
 use Rattle.std.specs.Prelude.{◌≡◌, ℕ, Bool, List, [], ◌∷◌, ◌++◌, Option, Some, None, Ok}
 use Rattle.std.specs.List.{list_any}
-use Rattle.dl_base.specs.Consecutive.{is_in}
-use Rattle.dl_base.specs.Outside.{File}
-use Rattle.dl_base.specs.declared.ranges.MapRange.{MapRange}
-use Rattle.dl_base.specs.declared.status.Status.TheVariants as statuses
+use Rattle.texts.specs.Consecutive.{is_in}
+use Rattle.outside.specs.Outside.{File}
+use Rattle.described.specs.declared.map_range.MapRange.{MapRange}
+use Rattle.outside.specs.declared.status.Status.TheVariants as statuses
 use Rattle.stage2_walk.specs.Pages.{Page}
 use Rattle.stage2_walk.specs.Files.{image_of}
 use Rattle.stage2_walk.specs.declared.image_fault.ImageFault.{ImageFault}

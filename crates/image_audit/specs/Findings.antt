@@ -2,9 +2,9 @@
 use Rattle.std.specs.Prelude.{ℕ, ◌^◌, ◌&&◌, nat_eq, not, Bool, List, find, Option, option_map}
 use Rattle.std.specs.List.{list_any}
 use Rattle.std.specs.Option.{option_or, option_eq}
-use Rattle.dl_base.specs.Consecutive.{numbers}
-use Rattle.dl_base.specs.Maps.{Target, attributes, target_of}
-use Rattle.dl_base.specs.declared.ranges.MapRange.{MapRange}
+use Rattle.texts.specs.Consecutive.{numbers}
+use Rattle.described.specs.Maps.{Target, attributes, target_of}
+use Rattle.described.specs.declared.map_range.MapRange.{MapRange}
 use Rattle.frame_alloc.specs.Frames.{is_within}
 use Rattle.stage2_walk.specs.Pages.{Page, frames_of}
 use Rattle.stage2_walk.specs.Runs.{PageMap, map_of}

@@ -1,7 +1,7 @@
 -- Where two lists of runs part. Only private contracts and proofs use this file.
 use Rattle.std.specs.Prelude.{ℕ, ◌+◌, ◌==◌, ◌&&◌, min, Bool, if◌then◌else◌, List, [], ◌∷◌, Option, Some, None}
-use Rattle.dl_base.specs.Maps.{attributes}
-use Rattle.dl_base.specs.declared.ranges.MapRange.{MapRange}
+use Rattle.described.specs.Maps.{attributes}
+use Rattle.described.specs.declared.map_range.MapRange.{MapRange}
 use Rattle.stage2_walk.specs.declared.run.Run.{Run}
 
 -- the run that a range of a plan is

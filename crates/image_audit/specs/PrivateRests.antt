@@ -1,8 +1,8 @@
 -- Frames that are left when some are taken. Only private contracts and proofs use this file.
 use Rattle.std.specs.Prelude.{◌≡◌, ◌^◌, ◌<◌, ◌&&◌, ℕ, not, Bool, List}
-use Rattle.dl_base.specs.Consecutive.{is_in}
-use Rattle.dl_base.specs.declared.ranges.FrameRange.{FrameRange}
-use Rattle.dl_base.specs.declared.ranges.MapRange.{MapRange}
+use Rattle.texts.specs.Consecutive.{is_in}
+use Rattle.texts.specs.declared.ranges.FrameRange.{FrameRange}
+use Rattle.described.specs.declared.map_range.MapRange.{MapRange}
 use Rattle.frame_alloc.specs.Frames.{AreFrameRanges}
 use Rattle.frame_ranges.specs.Ranges.{holds}
 

@@ -1,8 +1,8 @@
 -- How what an audit finds is said.
 use Rattle.std.specs.Prelude.{ℕ, ◌==◌, ◌++◌, if◌then◌else◌, List, codes, decimal, Option, Some, None}
-use Rattle.dl_base.specs.Maps.{attributes}
-use Rattle.dl_base.specs.NumberTexts.{hexadecimal}
-use Rattle.dl_base.specs.declared.ranges.Kind.TheVariants.{Ram, Device, Shared}
+use Rattle.described.specs.Maps.{attributes}
+use Rattle.texts.specs.NumberTexts.{hexadecimal}
+use Rattle.described.specs.declared.map_range.Kind.TheVariants.{Ram, Device, Shared}
 use Rattle.stage2_walk.specs.declared.audit_fault.AuditFault.{AuditFault}
 use Rattle.stage2_walk.specs.declared.audit_fault.AuditFault.TheVariants as tears
 use Rattle.stage2_walk.specs.declared.image_fault.ImageFault.{ImageFault}

@@ -1,7 +1,7 @@
 //! The audit of the images of guests, one after the other.
 ghost use Rattle.std.specs.Prelude.{◌≡◌, ◌+◌, ℕ, All, IfErr, IfOk, IsSome, List as Items, None, OnOk};
 ghost use Rattle.std.specs.Option.{option_copied};
-ghost use Rattle.dl_base.specs.Maps.{AreMapRanges, AreMerged};
+ghost use Rattle.described.specs.Maps.{AreMapRanges, AreMerged};
 ghost use Rattle.frame_alloc.specs.Frames.{AreFrameRanges};
 ghost use Rattle.stage2_walk.specs.Files.{image_of};
 ghost use Rattle.stage2_walk.specs.Pages.{frames_of, page_of};
@@ -16,11 +16,13 @@ use crate::finding::find_finding;
 use crate::frames::{all_frames, find_unmapped, leave_tables};
 use crate::texts::make_image_fault_text;
 use build_outputs::make_image_name;
-use dl_base::{Files, FrameRange, List, MapRange, Status};
+use described::MapRange;
 use domain_plan::GuestPlan;
+use outside::{Files, Status};
 use run_steps::{Stop, make_file_message, read_file};
 use stage2_walk::{Counted, Image, read_image};
 use std::alloc::Global;
+use texts::{FrameRange, List};
 
 // The longest image that is read, in bytes.
 const IMAGE_LIMIT: u64 = 268_435_456;

@@ -1,11 +1,11 @@
 //! Where the runs of an image part from the ranges of a plan.
 ghost use Rattle.std.specs.Prelude.{◌≡◌, ◌+◌, ◌^◌, ◌<◌, ◌≤◌, IfSome};
-ghost use Rattle.dl_base.specs.Maps.{AreMapRanges, attributes};
+ghost use Rattle.described.specs.Maps.{AreMapRanges, attributes};
 ghost use Rattle.stage2_walk.specs.Runs.{map_of};
 ghost use Rattle.image_audit.specs.Findings.{planned_map};
 ghost use Rattle.image_audit.specs.PrivatePartings.{are_same, begin_alike, parting, parting_page, planned_run};
 
-use dl_base::{Kind, MapRange};
+use described::{Kind, MapRange};
 use stage2_walk::{Image, Run, Step};
 
 /// The attribute bits of a kind: 5:2 memory type, 7:6 access, 9:8 shareability, 10 access flag, 54 execute never.

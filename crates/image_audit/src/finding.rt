@@ -1,7 +1,7 @@
 //! The first finding in an image.
 ghost use Rattle.std.specs.Prelude.{◌≡◌, ◌+◌, IfOk, IsSome};
 ghost use Rattle.std.specs.Option.{option_or};
-ghost use Rattle.dl_base.specs.Maps.{AreMapRanges, AreMerged};
+ghost use Rattle.described.specs.Maps.{AreMapRanges, AreMerged};
 ghost use Rattle.frame_alloc.specs.Frames.{AreFrameRanges};
 ghost use Rattle.stage2_walk.specs.Pages.{page_of};
 ghost use Rattle.stage2_walk.specs.Runs.{mapped_runs};
@@ -12,9 +12,10 @@ ghost use Rattle.image_audit.specs.PrivateRests.{is_outside};
 use crate::differences::{find_parting, planned_goal, walked_goal};
 use crate::frames::find_outside;
 use crate::texts::{make_difference_text, make_frame_text, make_tear_text};
-use dl_base::{Bytes, FrameRange, MapRange};
+use described::MapRange;
 use stage2_walk::{Counted, Image, Run, runs};
 use std::alloc::{AllocError, Global};
+use texts::{Bytes, FrameRange};
 
 /// The first finding in an image of a guest that is planned to have these ranges: where it is torn, where it goes elsewhere,
 /// a table in none of the unmapped frames, or a table in none of the free ones.

@@ -1,17 +1,18 @@
 //! The frames of tables, and those that are left when some are taken. A frame is 4,096 bytes of the host, and frames are
 //! below 2^28.
 ghost use Rattle.std.specs.Prelude.{◌≡◌, ◌++◌, All, IfOk, OnOk, false, find, map};
-ghost use Rattle.dl_base.specs.Maps.{AreMapRanges};
+ghost use Rattle.described.specs.Maps.{AreMapRanges};
 ghost use Rattle.frame_alloc.specs.Frames.{AreFrameRanges};
 ghost use Rattle.stage2_walk.specs.Pages.{frames_of};
 ghost use Rattle.image_audit.specs.Findings.{is_mapped};
 ghost use Rattle.image_audit.specs.PrivateRests.{IsLeft, IsRest, host_frames, is_outside};
 
-use dl_base::{FrameRange, List, MapRange};
+use described::MapRange;
 use domain_plan::GuestPlan;
 use frame_ranges::{frames_left, lies_in};
 use stage2_walk::Image;
 use std::alloc::{AllocError, Global};
+use texts::{FrameRange, List};
 
 /// All frames.
 const ALL: FrameRange = FrameRange {

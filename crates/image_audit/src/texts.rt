@@ -5,9 +5,10 @@ ghost use Rattle.image_audit.specs.Texts.{attributes_text, checked_line, differe
 
 use crate::differences::attributes;
 use build_report::kind_text;
-use dl_base::{Bytes, Kind};
+use described::Kind;
 use stage2_walk::{AuditFault, ImageFault};
 use std::alloc::{AllocError, Global};
+use texts::Bytes;
 
 /// The line that is put where nothing is found, with the number of guests: `checked N`.
 pub fn make_checked_line(alloc: Global, guests: u64) -> Result<Bytes, AllocError>

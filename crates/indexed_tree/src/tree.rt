@@ -14,11 +14,11 @@ use crate::holder_map::Holders;
 use crate::node::IndexedNode;
 use crate::phandles::{add_whole, holder, push_whole, put_whole, set_whole};
 use crate::trees::tree_of;
-use dl_base::cut;
 use fdt_tree::Tree;
 use std::alloc::{AllocError, Global};
 use std::collections::BTreeMap;
 use std::marker::Model;
+use texts::cut;
 
 /// A device tree whose children, properties and phandles are found by name or number in the time of a search in a sorted
 /// list.

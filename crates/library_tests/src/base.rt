@@ -1,6 +1,6 @@
 // Bytes that are shared, while memory is left.
-use dl_base::Bytes;
 use std::test::Fail;
+use texts::Bytes;
 
 #[test]
 fn shared_bytes_are_copied_before_they_grow(rt: HostRuntime) -> Result<(), Fail> {

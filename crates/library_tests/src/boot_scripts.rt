@@ -1,8 +1,8 @@
 // The text of commands that no configuration has.
-use dl_base::{Bytes, List, Text};
 use ib_script::{Command, Piece, print};
 use std::alloc::{AllocError, Global};
 use std::test::Fail;
+use texts::{Bytes, List, Text};
 
 fn text_of(alloc: Global, text: &str) -> Result<Text, AllocError> {
     let mut copy = Text::new(alloc);

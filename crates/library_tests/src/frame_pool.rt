@@ -1,7 +1,7 @@
 // Draws with ample memory.
-use dl_base::{FrameRange, List};
 use frame_alloc::{FramePool, PoolFault};
 use std::test::Fail;
+use texts::{FrameRange, List};
 
 #[test]
 fn draws_a_chunk_a_pair_and_frames(rt: HostRuntime) -> Result<(), Fail> {

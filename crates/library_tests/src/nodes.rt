@@ -1,5 +1,5 @@
 // Calls of fdt_nodes while memory is left.
-use dl_base::Part;
+use described::Part;
 use fdt_nodes::{children, descendants, found, item_of, nodes, path};
 use fdt_tree::Tree;
 use std::test::Fail;

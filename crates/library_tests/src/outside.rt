@@ -1,5 +1,5 @@
 // The adapters at the real file system: that files are written, measured and read while memory is left, and how they are missed.
-use dl_base::{FileError, Files, Outs, SizeError};
+use outside::{FileError, Files, Outs, SizeError};
 use real_outside::Folder;
 use std::fs;
 use std::test::Fail;

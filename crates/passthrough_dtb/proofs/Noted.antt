@@ -2,13 +2,13 @@
 use Rattle.std.proofs.Common.{◌≡◌, ◌∙◌, ap, sym, subst, ℕ, ◌+◌, ◌≤◌, List, [], ◌∷◌, ◌++◌, length, drop, take, map, false, Bool, append_assoc, replicate}
 use Rattle.std.specs.Prelude.{◌||◌, slice_index_or}
 use Rattle.std.proofs.lemmas.List.{get_or-replicate}
-use Rattle.dl_base.specs.declared.item.Described.{Described}
-use Rattle.dl_base.specs.declared.item.Part.TheVariants as parts
-use Rattle.dl_base.specs.declared.item.What.TheVariants as whats
+use Rattle.described.specs.declared.item.Described.{Described}
+use Rattle.described.specs.declared.item.Part.TheVariants as parts
+use Rattle.described.specs.declared.item.What.TheVariants as whats
 use Rattle.fdt_tree.specs.Tree.{Bytes}
 use Rattle.fdt_nodes.specs.Entries.{split_entries}
 use Rattle.passthrough_dtb.specs.declared.interrupts.Interrupt.{Interrupt}
-use Rattle.dl_base.specs.Reasons.{described}
+use Rattle.described.specs.Reasons.{described}
 use Rattle.passthrough_dtb.specs.Whole.{item_in}
 use Rattle.passthrough_dtb.specs.Interrupts.{interrupt_in, interrupt_reason, interrupts_from}
 use Rattle.passthrough_dtb.specs.PrivateTables.{Tells, is_held}

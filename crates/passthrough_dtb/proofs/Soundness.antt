@@ -2,25 +2,25 @@
 use Rattle.std.proofs.Common.{◌≡◌, ◌∙◌, ap, sym, subst, refl, ℕ, ◌+◌, ◌%◌, ◌^◌, ◌<◌, ◌≤◌, List, [], ◌∷◌, ◌++◌, Some, None, true, false, Bool, length, arith}
 use Rattle.std.specs.Prelude.{Option, map, flat_map, ◌==◌, ◌||◌, ◌&&◌, not, nat_lt, nat_le}
 use Rattle.std.specs.List.{list_any}
-use Rattle.dl_base.specs.declared.item.Described.{Described}
-use Rattle.dl_base.specs.declared.item.Item.{Item}
-use Rattle.dl_base.specs.declared.item.Part.TheVariants as parts
-use Rattle.dl_base.specs.declared.item.What.{What}
-use Rattle.dl_base.specs.declared.item.What.TheVariants as whats
-use Rattle.dl_base.specs.declared.why.Why.{Why}
-use Rattle.dl_base.specs.declared.why.Why.TheVariants.{TooMany, NotPage, TooHigh, TooLarge, BadValue, IrqNotHost}
+use Rattle.described.specs.declared.item.Described.{Described}
+use Rattle.described.specs.declared.item.Item.{Item}
+use Rattle.described.specs.declared.item.Part.TheVariants as parts
+use Rattle.described.specs.declared.item.What.{What}
+use Rattle.described.specs.declared.item.What.TheVariants as whats
+use Rattle.described.specs.declared.why.Why.{Why}
+use Rattle.described.specs.declared.why.Why.TheVariants.{TooMany, NotPage, TooHigh, TooLarge, BadValue, IrqNotHost}
 use Rattle.fdt_tree.specs.Tree.{Bytes, Tree}
 use Rattle.fdt_nodes.specs.declared.entries.Window.{Window}
 use Rattle.fdt_nodes.specs.Nodes.{Node, shown}
 use Rattle.passthrough_dtb.specs.declared.interrupts.Interrupt.{Interrupt}
-use Rattle.dl_base.specs.Reasons.{where_so, first_reason, described, is_not_page, is_too_high, is_too_large}
+use Rattle.described.specs.Reasons.{where_so, first_reason, described, is_not_page, is_too_high, is_too_large}
 use Rattle.passthrough_dtb.specs.Whole.{item_in, partial_reason}
 use Rattle.passthrough_dtb.specs.Devices.{devices, device_item, device_reason, host_node, properties_of}
 use Rattle.passthrough_dtb.specs.Ranges.{Entry, same_range, is_among, and_range, new_range_reason, range_reason, ranges_after, range_items, entries_of}
 use Rattle.passthrough_dtb.specs.Interrupts.{interrupts_of, is_no_spi, same_interrupt, interrupt_reason, interrupts_from, irq_items}
 use Rattle.passthrough_dtb.specs.Items.{partial_items}
 use Rattle.std.proofs.lemmas.Bool.Decides.{nat_tests}
-use Rattle.dl_base.specs.Sound.{AreWholePages, IsSound, SoundUnless, AreSound}
+use Rattle.described.specs.Sound.{AreWholePages, IsSound, SoundUnless, AreSound}
 
 -- what an item says is kept where what follows is weakened
 unless-then : (own : Option Why) (what : What) (A B : Type 0) → (A → B) → SoundUnless own what A → SoundUnless own what B

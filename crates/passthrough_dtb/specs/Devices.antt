@@ -1,16 +1,16 @@
 -- The devices of a partial tree, each with the host's node that it stands for.
 use Rattle.std.specs.Prelude.{ℕ, ◌==◌, ◌&&◌, ◌||◌, not, Bool, false, List, [], ◌∷◌, filter, length, codes, is_some, is_none, Option, Some, None, option_and_then}
 use Rattle.std.specs.Option.{option_map_or}
-use Rattle.dl_base.specs.declared.item.Described.{Described}
-use Rattle.dl_base.specs.declared.item.Part.TheVariants as parts
-use Rattle.dl_base.specs.declared.item.What.TheVariants as whats
-use Rattle.dl_base.specs.declared.why.Why.{Why}
-use Rattle.dl_base.specs.declared.why.Why.TheVariants.{Missing, BadValue, NoHostNode, NoIommu, ExtendedInterrupts, BadLength, NotGic}
+use Rattle.described.specs.declared.item.Described.{Described}
+use Rattle.described.specs.declared.item.Part.TheVariants as parts
+use Rattle.described.specs.declared.item.What.TheVariants as whats
+use Rattle.described.specs.declared.why.Why.{Why}
+use Rattle.described.specs.declared.why.Why.TheVariants.{Missing, BadValue, NoHostNode, NoIommu, ExtendedInterrupts, BadLength, NotGic}
 use Rattle.fdt_tree.specs.Tree.{Bytes, Property, Tree, property_of}
 use Rattle.fdt_nodes.specs.Nodes.{Node, node_found, shown}
 use Rattle.fdt_nodes.specs.Values.{has, passes, string_in}
 use Rattle.fdt_nodes.specs.Entries.{is_whole, window_cells}
-use Rattle.dl_base.specs.Reasons.{where_so, first_reason, described}
+use Rattle.described.specs.Reasons.{where_so, first_reason, described}
 use Rattle.passthrough_dtb.specs.Gic.{is_on_gic}
 use Rattle.passthrough_dtb.specs.Whole.{item_in, passed_nodes}
 

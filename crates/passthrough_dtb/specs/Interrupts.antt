@@ -2,16 +2,16 @@
 use Rattle.std.specs.Prelude.{ℕ, ◌+◌, ◌==◌, ◌&&◌, ◌||◌, not, nat_lt, Bool, List, [], ◌∷◌, map, codes, Option, if◌then◌else◌}
 use Rattle.std.specs.Option.{option_map_or}
 use Rattle.std.specs.List.{list_any}
-use Rattle.dl_base.specs.declared.item.Described.{Described}
-use Rattle.dl_base.specs.declared.item.Part.TheVariants as parts
-use Rattle.dl_base.specs.declared.item.What.TheVariants as whats
-use Rattle.dl_base.specs.declared.why.Why.{Why}
-use Rattle.dl_base.specs.declared.why.Why.TheVariants.{BadValue, IrqNotHost}
+use Rattle.described.specs.declared.item.Described.{Described}
+use Rattle.described.specs.declared.item.Part.TheVariants as parts
+use Rattle.described.specs.declared.item.What.TheVariants as whats
+use Rattle.described.specs.declared.why.Why.{Why}
+use Rattle.described.specs.declared.why.Why.TheVariants.{BadValue, IrqNotHost}
 use Rattle.fdt_tree.specs.Tree.{Bytes, Property, Tree, property_of}
 use Rattle.fdt_nodes.specs.Nodes.{Node, shown}
 use Rattle.fdt_nodes.specs.Entries.{first_number, after_cells, is_whole, split_entries}
 use Rattle.passthrough_dtb.specs.declared.interrupts.Interrupt.{Interrupt}
-use Rattle.dl_base.specs.Reasons.{where_so, first_reason, described}
+use Rattle.described.specs.Reasons.{where_so, first_reason, described}
 use Rattle.passthrough_dtb.specs.Whole.{item_in}
 use Rattle.passthrough_dtb.specs.Devices.{host_node, properties_of}
 

@@ -2,17 +2,17 @@
 use Rattle.std.specs.Prelude.{ℕ, ◌+◌, ◌==◌, ◌&&◌, nat_le, Bool, List, [], ◌∷◌, ◌++◌, flat_map, length, codes, Option, None, if◌then◌else◌}
 use Rattle.std.specs.Option.{option_map_or}
 use Rattle.std.specs.List.{list_any}
-use Rattle.dl_base.specs.declared.item.Described.{Described}
-use Rattle.dl_base.specs.declared.item.Item.{Item}
-use Rattle.dl_base.specs.declared.item.Part.TheVariants as parts
-use Rattle.dl_base.specs.declared.item.What.TheVariants as whats
-use Rattle.dl_base.specs.declared.why.Why.{Why}
-use Rattle.dl_base.specs.declared.why.Why.TheVariants.{TooMany, NotPage, TooHigh, TooLarge}
+use Rattle.described.specs.declared.item.Described.{Described}
+use Rattle.described.specs.declared.item.Item.{Item}
+use Rattle.described.specs.declared.item.Part.TheVariants as parts
+use Rattle.described.specs.declared.item.What.TheVariants as whats
+use Rattle.described.specs.declared.why.Why.{Why}
+use Rattle.described.specs.declared.why.Why.TheVariants.{TooMany, NotPage, TooHigh, TooLarge}
 use Rattle.fdt_tree.specs.Tree.{Bytes, Tree, property_of}
 use Rattle.fdt_nodes.specs.declared.entries.Window.{Window}
 use Rattle.fdt_nodes.specs.Nodes.{Node, shown}
 use Rattle.fdt_nodes.specs.Entries.{is_whole, window_cells, device_windows}
-use Rattle.dl_base.specs.Reasons.{where_so, first_reason, described, is_not_page, is_too_high, is_too_large}
+use Rattle.described.specs.Reasons.{where_so, first_reason, described, is_not_page, is_too_high, is_too_large}
 use Rattle.passthrough_dtb.specs.Whole.{item_in}
 use Rattle.passthrough_dtb.specs.Devices.{devices}
 

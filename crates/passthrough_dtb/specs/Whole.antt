@@ -1,18 +1,18 @@
 -- The item of a partial tree as a whole.
 use Rattle.std.specs.Prelude.{ℕ, ◌++◌, ◌||◌, Bool, List, [], ◌∷◌, flat_map, codes, decimal, is_some, is_none, Option}
 use Rattle.std.specs.Option.{option_map_or, option_to_list}
-use Rattle.dl_base.specs.declared.item.Described.{Described}
-use Rattle.dl_base.specs.declared.item.Item.{Item}
-use Rattle.dl_base.specs.declared.item.Part.{Part}
-use Rattle.dl_base.specs.declared.item.Part.TheVariants as parts
-use Rattle.dl_base.specs.declared.item.What.TheVariants as whats
-use Rattle.dl_base.specs.declared.why.Why.{Why}
-use Rattle.dl_base.specs.declared.why.Why.TheVariants.{Missing, BadLength, BadValue, PhandleClash}
+use Rattle.described.specs.declared.item.Described.{Described}
+use Rattle.described.specs.declared.item.Item.{Item}
+use Rattle.described.specs.declared.item.Part.{Part}
+use Rattle.described.specs.declared.item.Part.TheVariants as parts
+use Rattle.described.specs.declared.item.What.TheVariants as whats
+use Rattle.described.specs.declared.why.Why.{Why}
+use Rattle.described.specs.declared.why.Why.TheVariants.{Missing, BadLength, BadValue, PhandleClash}
 use Rattle.fdt_tree.specs.Tree.{Bytes, Property, Tree}
 use Rattle.fdt_tree.specs.Phandles.{first_repeated}
 use Rattle.fdt_nodes.specs.Nodes.{Node, node_found, descendants}
 use Rattle.fdt_nodes.specs.Values.{is_memory, has_other_length, u32_in}
-use Rattle.dl_base.specs.Reasons.{where_so, first_reason, described}
+use Rattle.described.specs.Reasons.{where_so, first_reason, described}
 use Rattle.passthrough_dtb.specs.Gic.{guest_gic}
 
 -- an item of a guest's partial tree, by its path there

@@ -10,7 +10,7 @@ ghost use Rattle.fdt_nodes.specs.Entries.{is_whole};
 ghost use Rattle.passthrough_dtb.specs.Devices.{is_forced, lacks_path, is_path, has_bad_path, has_bad_cells, lacks_host, lacks_iommu, is_extended, is_no_list, has_bad_reg, has_bad_interrupts, has_bad_length, is_off_gic, reason_at};
 
 use crate::facts::Facts;
-use dl_base::Why;
+use described::Why;
 use fdt_nodes::{has, string_at};
 use fdt_tree::{NodeId, Tree};
 

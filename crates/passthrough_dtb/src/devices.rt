@@ -13,11 +13,12 @@ use crate::device::reason_at;
 use crate::facts::{Known, facts_once};
 use crate::hosts::host_node;
 use crate::items::item_in;
-use dl_base::{Described, List, Part, What, described};
+use described::{Described, Part, What, described};
 use fdt_nodes::{PathIndex, descendants, has, path};
 use fdt_tree::{NodeId, Tree};
 use std::alloc::{AllocError, Global};
 use std::collections::BTreeMap;
+use texts::List;
 
 /// A device of a partial tree, the host's node that it stands for, where there is one, and the cells in which its
 /// `xen,reg` is counted, where they are good.

@@ -4,7 +4,7 @@ ghost use Rattle.std.specs.Prelude.{◌≡◌, ◌<◌, ◌≤◌, ◌++◌, ◌
 ghost use Rattle.std.specs.Option.{option_map_or, IsSome};
 ghost use Rattle.std.specs.BTreeMap.{get};
 ghost use Rattle.std.specs.Ordering.{nat_cmp};
-ghost use Rattle.dl_base.specs.declared.item.Part.TheVariants as parts;
+ghost use Rattle.described.specs.declared.item.Part.TheVariants as parts;
 ghost use Rattle.fdt_tree.specs.Tree.{Bytes};
 ghost use Rattle.fdt_nodes.specs.Entries.{split_entries};
 ghost use Rattle.passthrough_dtb.specs.Interrupts.{interrupt_in, interrupts_in, is_no_spi, interrupt_reason, interrupts_from, irq_items};
@@ -14,11 +14,12 @@ ghost use Rattle.passthrough_dtb.specs.PrivateHeld.{device_of, IsDevice, AreDevi
 
 use crate::devices::Device;
 use crate::items::item_in;
-use dl_base::{Described, Item, List, Part, What, Why, described};
+use described::{Described, Item, Part, What, Why, described};
 use fdt_nodes::{path, with_index};
 use fdt_tree::{NodeId, Tree, u32_of};
 use std::alloc::{AllocError, Global};
 use std::collections::BTreeMap;
+use texts::List;
 
 // How many numbers a shared peripheral interrupt may have.
 const SPI_COUNT: usize = 988;

@@ -1,6 +1,6 @@
 // The ranges of host addresses that devices have.
 ghost use Rattle.std.specs.Prelude.{◌≡◌, ◌≤◌, ◌<◌, ◌++◌, [], ℕ, List, length, map, flat_map, OnOk, IfOk, IfSome};
-ghost use Rattle.dl_base.specs.declared.item.Part.TheVariants as parts;
+ghost use Rattle.described.specs.declared.item.Part.TheVariants as parts;
 ghost use Rattle.fdt_tree.specs.Tree.{Bytes};
 ghost use Rattle.fdt_nodes.specs.declared.entries.Window.{Window as Range};
 ghost use Rattle.fdt_nodes.specs.Held.{node_of};
@@ -12,12 +12,13 @@ ghost use Rattle.passthrough_dtb.specs.PrivateHeld.{device_of, AreDevices};
 use crate::devices::Device;
 use crate::items::item_in;
 use crate::seen::Ranges;
-use dl_base::{
-    Described, Item, List, Part, What, Why, described, is_not_page, is_too_high, is_too_large,
+use described::{
+    Described, Item, Part, What, Why, described, is_not_page, is_too_high, is_too_large,
 };
 use fdt_nodes::{EntriesFault, Window, device_windows, path, with_index};
 use fdt_tree::{NodeId, Tree};
 use std::alloc::{AllocError, Global};
+use texts::List;
 
 /// The first reason against a range that repeats none before it; so many stand before.
 fn new_range_reason(count: usize, range: Window) -> Option<Why>

@@ -2,17 +2,18 @@
 ghost use Rattle.std.specs.Prelude.{◌≡◌, IfOk};
 ghost use Rattle.passthrough_dtb.specs.Gic.{guest_gic};
 ghost use Rattle.passthrough_dtb.specs.Items.{partial_items};
-ghost use Rattle.dl_base.specs.Sound.{AreSound};
+ghost use Rattle.described.specs.Sound.{AreSound};
 
 use crate::devices::{add_devices, devices, passed_nodes};
 use crate::gic::{guest_gic, host_gic};
 use crate::interrupts::add_interrupts;
 use crate::ranges::add_ranges;
 use crate::whole::partial_item;
-use dl_base::{Described, List};
+use described::Described;
 use fdt_nodes::PathIndex;
 use fdt_tree::Tree;
 use std::alloc::{AllocError, Global};
+use texts::List;
 
 /// What a guest's partial device tree describes.
 #[derive(Debug, Drop)]

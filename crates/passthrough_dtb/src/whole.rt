@@ -9,10 +9,11 @@ ghost use Rattle.fdt_nodes.specs.Values.{is_memory as says_memory};
 
 use crate::items::item_in;
 use crate::seen::Phandles;
-use dl_base::{Described, List, Part, What, Why, described};
+use described::{Described, Part, What, Why, described};
 use fdt_nodes::{has_other_length, is_memory, u32_at};
 use fdt_tree::{NodeId, Tree};
 use std::alloc::{AllocError, Global};
+use texts::List;
 
 fn has_bad_gic(partial: &Tree) -> bool
     ensures { result ≡ has_bad_gic partial.now.tree }

@@ -2,7 +2,7 @@
 ghost use Rattle.std.specs.Prelude.{◌≡◌, ◌≢◌, codes};
 ghost use Rattle.std.specs.IoError.{error_kind};
 
-use dl_base::Status;
+use outside::Status;
 use std::alloc::AllocError;
 use std::env::Env;
 use std::io::{self, ErrorKind};

@@ -2,7 +2,7 @@
 ghost use Rattle.std.specs.Prelude.{◌≡◌, ◌≤◌, IfOk, None, length};
 
 use crate::replaced::write_whole;
-use dl_base::{Failed, FileError, Outs, SizeError};
+use outside::{Failed, FileError, Outs, SizeError};
 use std::alloc::Global;
 use std::fs;
 use std::io::{ErrorKind, Read};
@@ -73,7 +73,7 @@ fn read_within<F: Read>(alloc: Global, file: &mut F, limit: u64) -> Result<Vec<u
     Err(FileError::Failed)
 }
 
-impl<R: Files> dl_base::Files for Folder<'_, R> {
+impl<R: Files> outside::Files for Folder<'_, R> {
     ghost held = { λ _. None };
 
     ghost faults = { λ folder. folder.faults };

@@ -1,7 +1,7 @@
 // Standard output and standard error. No bytes are told; failures are counted.
 ghost use Rattle.std.specs.Prelude.{◌≡◌, None};
 
-use dl_base::{Failed, Sink};
+use outside::{Failed, Sink};
 use std::io::Write;
 use std::marker::Model;
 

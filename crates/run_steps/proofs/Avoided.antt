@@ -1,11 +1,11 @@
 -- Which statuses the steps that read files never refuse with: reading and measuring files, and reading a tree, refuse with the statuses of reading files alone.
 use Rattle.std.proofs.Common.{◌≡◌, ℕ, List, inl, inr, codes}
 use Rattle.std.specs.Prelude.{Option, Some, None, Result, Ok, Err}
-use Rattle.dl_base.specs.Outside.{File}
-use Rattle.dl_base.specs.declared.files.FileError.{FileError}
-use Rattle.dl_base.specs.declared.files.FileError.TheVariants as read_errors
-use Rattle.dl_base.specs.declared.status.Status.{Status}
-use Rattle.dl_base.specs.declared.status.Status.TheVariants as statuses
+use Rattle.outside.specs.Outside.{File}
+use Rattle.outside.specs.declared.files.FileError.{FileError}
+use Rattle.outside.specs.declared.files.FileError.TheVariants as read_errors
+use Rattle.outside.specs.declared.status.Status.{Status}
+use Rattle.outside.specs.declared.status.Status.TheVariants as statuses
 use Rattle.run_steps.specs.Endings.{Refuses}
 use Rattle.run_steps.specs.Messages.{file_message}
 use Rattle.run_steps.specs.Steps.{IsRefusal, IsReading, IsReadRefusal, IsSize, OnResult, OnOption, AfterReading, AfterSize, AfterSizes, nothing}

@@ -1,9 +1,9 @@
 -- A stop that is due for a step of a run is due for the run.
 use Rattle.std.proofs.Common.{◌≤◌, ℕ, List, inl, inr, arith}
 use Rattle.std.specs.Prelude.{Result, Ok, Err, IfOk, IfErr}
-use Rattle.dl_base.specs.Outside.{Rose}
-use Rattle.dl_base.specs.declared.status.Status.{Status}
-use Rattle.dl_base.specs.declared.status.Status.TheVariants as statuses
+use Rattle.outside.specs.Outside.{Rose}
+use Rattle.outside.specs.declared.status.Status.{Status}
+use Rattle.outside.specs.declared.status.Status.TheVariants as statuses
 use Rattle.run_steps.specs.declared.stop.Stop.{Stop}
 use Rattle.run_steps.specs.declared.stop.Stop.TheVariants.{Memory, Because}
 use Rattle.run_steps.specs.Endings.{Outcome}

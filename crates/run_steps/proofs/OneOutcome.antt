@@ -1,11 +1,11 @@
 -- Over files that tell what they hold a step calls for one outcome, where what follows does.
 use Rattle.std.proofs.Common.{◌≡◌, ◌∙◌, sym, ap, subst, ℕ, List, [], ◌∷◌, codes, Some, None, inl, inr}
 use Rattle.std.specs.Prelude.{Option, Result, Ok, Err, unwrap_or}
-use Rattle.dl_base.specs.Outside.{File}
-use Rattle.dl_base.specs.declared.files.FileError.{FileError}
-use Rattle.dl_base.specs.declared.files.FileError.TheVariants as read_errors
-use Rattle.dl_base.specs.declared.status.Status.{Status}
-use Rattle.dl_base.specs.declared.status.Status.TheVariants as statuses
+use Rattle.outside.specs.Outside.{File}
+use Rattle.outside.specs.declared.files.FileError.{FileError}
+use Rattle.outside.specs.declared.files.FileError.TheVariants as read_errors
+use Rattle.outside.specs.declared.status.Status.{Status}
+use Rattle.outside.specs.declared.status.Status.TheVariants as statuses
 use Rattle.fdt_tree.specs.Tree.{Tree}
 use Rattle.fdt_tree.specs.declared.reserve.Reserve.{Reserve}
 use Rattle.fdt_read.specs.FaultTexts.{fault_text}

@@ -2,10 +2,10 @@
 use Rattle.std.proofs.Common.{◌≡◌, ◌∙◌, ◌+◌, ◌<◌, refl, sym, ap, subst, List, [], ◌∷◌, ◌++◌, inl, inr, codes, length, map, take, drop, get_or}
 use Rattle.std.proofs.lemmas.List.{take_more, take-append-drop, drop_more, map-append}
 use Rattle.std.specs.Prelude.{ℕ, ◌⊎◌, Option, Some, None, Result, Ok, Err}
-use Rattle.dl_base.specs.Outside.{File}
-use Rattle.dl_base.specs.declared.files.FileError.{FileError}
-use Rattle.dl_base.specs.declared.files.FileError.TheVariants as read_errors
-use Rattle.dl_base.specs.declared.status.Status.TheVariants as statuses
+use Rattle.outside.specs.Outside.{File}
+use Rattle.outside.specs.declared.files.FileError.{FileError}
+use Rattle.outside.specs.declared.files.FileError.TheVariants as read_errors
+use Rattle.outside.specs.declared.status.Status.TheVariants as statuses
 use Rattle.run_steps.specs.Messages.{file_message}
 use Rattle.run_steps.specs.Endings.{Outcome, Refuses, Builds}
 use Rattle.run_steps.specs.Steps.{IsRefusal, IsReading, IsReadRefusal, OnResult, OnOption, AfterReading, IsSize, AfterSize, AfterSizes, AreSizes, nothing}

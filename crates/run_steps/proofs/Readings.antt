@@ -1,8 +1,8 @@
 -- What reads answer, whether or not the files are told.
 use Rattle.std.proofs.Common.{ℕ, List, Some, None}
 use Rattle.std.specs.Prelude.{Option, Err, IfSome}
-use Rattle.dl_base.specs.Outside.{File, reading, ReadGives}
-use Rattle.dl_base.specs.declared.files.FileError.TheVariants as read_errors
+use Rattle.outside.specs.Outside.{File, reading, ReadGives}
+use Rattle.outside.specs.declared.files.FileError.TheVariants as read_errors
 use Rattle.run_steps.specs.Steps.{IsReading}
 
 -- a read that met no file

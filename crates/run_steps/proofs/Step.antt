@@ -1,8 +1,8 @@
 -- What a step of a run is, and how steps compose: each hands on something that it found, or it refuses.
 use Rattle.std.proofs.Common.{◌≡◌, ◌∙◌, refl, sym, ap, subst, suc, List, [], ◌∷◌, ◌++◌, length, inl, inr}
 use Rattle.std.specs.Prelude.{◌⊎◌, ℕ, Option, Some, None, Result, Ok, Err}
-use Rattle.dl_base.specs.Outside.{File}
-use Rattle.dl_base.specs.declared.status.Status.{Status}
+use Rattle.outside.specs.Outside.{File}
+use Rattle.outside.specs.declared.status.Status.{Status}
 use Rattle.run_steps.specs.Endings.{Outcome, Refuses, Builds}
 use Rattle.run_steps.specs.Steps.{OnResult, OnOption, AfterEach, GiveEach, nothing}
 

@@ -5,10 +5,10 @@ use Rattle.std.specs.List.{flat_map}
 use Rattle.std.proofs.Math.Seq.{take-append-add}
 use Rattle.std.proofs.lemmas.Grind.{flat_map-append}
 use Rattle.std.proofs.lemmas.List.{take-append-drop, take-append-le, take_min, map-append, drop_more}
-use Rattle.dl_base.specs.Outside.{File, TookPart, TookPrefix, and_bytes, fits_file, less_file}
-use Rattle.dl_base.proofs.RegionLemmas.{both_true}
-use Rattle.dl_base.specs.declared.status.Status.{Status}
-use Rattle.dl_base.specs.declared.status.Status.TheVariants as statuses
+use Rattle.outside.specs.Outside.{File, TookPart, TookPrefix, and_bytes, fits_file, less_file}
+use Rattle.described.proofs.RegionLemmas.{both_true}
+use Rattle.outside.specs.declared.status.Status.{Status}
+use Rattle.outside.specs.declared.status.Status.TheVariants as statuses
 use Rattle.run_steps.specs.Endings.{and_files, TookUpTo, TakesFiles, fits_files}
 use Rattle.run_steps.specs.Outputs.{file_of}
 use Rattle.run_steps.specs.declared.output.Output.{Output}

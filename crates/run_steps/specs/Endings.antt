@@ -1,7 +1,7 @@
 -- How a run may end, and what it leaves in the outputs and the streams.
 use Rattle.std.specs.Prelude.{◌≡◌, ℕ, ◌≤◌, ◌⊎◌, Bool, true, ◌&&◌, IsTrue, List, [], ◌∷◌, ◌++◌, length, Option, Some, None, option_map}
-use Rattle.dl_base.specs.Outside.{File, Rose, and_bytes, TookPart, TookPrefix, fits_file, less_file}
-use Rattle.dl_base.specs.declared.status.Status.{Status}
+use Rattle.outside.specs.Outside.{File, Rose, and_bytes, TookPart, TookPrefix, fits_file, less_file}
+use Rattle.outside.specs.declared.status.Status.{Status}
 
 -- what a run is called to do: to refuse with a status and a message, or to build outputs and a report
 pub data Outcome : Type 0 where

@@ -1,7 +1,7 @@
 -- The words and the files call for one outcome, and a run answers it.
 use Rattle.std.specs.Prelude.{◌≡◌, ◌⊎◌}
-use Rattle.dl_base.specs.declared.status.Status.{Status}
-use Rattle.dl_base.specs.declared.status.Status.TheVariants as statuses
+use Rattle.outside.specs.declared.status.Status.{Status}
+use Rattle.outside.specs.declared.status.Status.TheVariants as statuses
 use Rattle.run_steps.specs.Endings.{Outcome, Refuses, Builds}
 
 -- two outcomes refuse with one status and one message, or both build the same outputs and one report

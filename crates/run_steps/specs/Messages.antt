@@ -1,8 +1,8 @@
 -- What a run says on `err`: a message is one line, behind the name of the program.
 use Rattle.std.specs.Prelude.{ℕ, List, ◌++◌, codes, decimal}
-use Rattle.dl_base.specs.declared.item.Item.{Item}
-use Rattle.dl_base.specs.declared.why.Why.{Why}
-use Rattle.dl_base.specs.Items.{item_text, why_text}
+use Rattle.described.specs.declared.item.Item.{Item}
+use Rattle.described.specs.declared.why.Why.{Why}
+use Rattle.described.specs.Items.{item_text, why_text}
 
 -- the line of a program's message, ended by a line feed
 abbrev pub line : List ℕ → List ℕ → List ℕ

@@ -1,6 +1,6 @@
 -- What a run makes before its first write.
 use Rattle.std.specs.Prelude.{ℕ, List, [], map, unwrap_or}
-use Rattle.dl_base.specs.Outside.{File}
+use Rattle.outside.specs.Outside.{File}
 use Rattle.run_steps.specs.declared.output.Output.{Output}
 use Rattle.run_steps.specs.declared.output.Build.{Build}
 

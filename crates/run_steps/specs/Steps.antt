@@ -1,10 +1,10 @@
 -- The steps of a run that read files: each refuses, or hands on what it found to what follows, which is left open.
 use Rattle.std.specs.Prelude.{◌≡◌, ◌≤◌, ℕ, ⊤, List, [], ◌∷◌, codes, length, Option, Some, None, Result, Ok, Err, option_map}
-use Rattle.dl_base.specs.Outside.{File, reading, bytes_of}
-use Rattle.dl_base.specs.declared.files.FileError.{FileError}
-use Rattle.dl_base.specs.declared.files.FileError.TheVariants as read_errors
-use Rattle.dl_base.specs.declared.status.Status.{Status}
-use Rattle.dl_base.specs.declared.status.Status.TheVariants as statuses
+use Rattle.outside.specs.Outside.{File, reading, bytes_of}
+use Rattle.outside.specs.declared.files.FileError.{FileError}
+use Rattle.outside.specs.declared.files.FileError.TheVariants as read_errors
+use Rattle.outside.specs.declared.status.Status.{Status}
+use Rattle.outside.specs.declared.status.Status.TheVariants as statuses
 use Rattle.run_steps.specs.Messages.{file_message, longer_message}
 use Rattle.run_steps.specs.Endings.{Outcome, Refuses, Builds}
 

@@ -1,8 +1,8 @@
 -- Why a run stops before its first write, status by status.
 use Rattle.std.specs.Prelude.{◌≡◌, ◌≤◌, ℕ, ◌⊎◌, ⊤, List, codes}
-use Rattle.dl_base.specs.Outside.{Rose}
-use Rattle.dl_base.specs.declared.status.Status.{Status}
-use Rattle.dl_base.specs.declared.status.Status.TheVariants as statuses
+use Rattle.outside.specs.Outside.{Rose}
+use Rattle.outside.specs.declared.status.Status.{Status}
+use Rattle.outside.specs.declared.status.Status.TheVariants as statuses
 use Rattle.run_steps.specs.declared.stop.Stop.{Stop}
 use Rattle.run_steps.specs.declared.stop.Stop.TheVariants.{Memory, Because}
 use Rattle.run_steps.specs.Messages.{file_message}

@@ -4,7 +4,7 @@ ghost use Rattle.std.specs.List.{flat_map};
 ghost use Rattle.run_steps.specs.Messages.{line, file_message};
 ghost use Rattle.run_steps.specs.Endings.{Said};
 
-use dl_base::Sink;
+use outside::Sink;
 
 /// Puts the line of a program's message. Takes no memory; a failure changes nothing but what the stream took.
 pub fn say<E: Sink>(err: &mut E, program: &str, message: &[u8])

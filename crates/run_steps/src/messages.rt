@@ -2,8 +2,9 @@
 ghost use Rattle.std.specs.Prelude.{◌≡◌, IfOk};
 ghost use Rattle.run_steps.specs.Messages.{file_message, longer_message, refused_message};
 
-use dl_base::{Bytes, Item, Why};
+use described::{Item, Why};
 use std::alloc::{AllocError, Global};
+use texts::Bytes;
 
 /// What is said about a file: `NAME: TEXT`.
 pub fn make_file_message(alloc: Global, name: &str, text: &[u8]) -> Result<Bytes, AllocError>

@@ -3,8 +3,8 @@ ghost use Rattle.std.specs.Prelude.{◌≡◌, IfOk};
 ghost use Rattle.std.specs.Option.{option_copied};
 ghost use Rattle.run_steps.specs.Names.{joined};
 
-use dl_base::Text;
 use std::alloc::{AllocError, Global};
+use texts::Text;
 
 /// A name in a folder, where one is given: `FOLDER/NAME`.
 pub fn join(alloc: Global, folder: Option<&str>, name: &str) -> Result<Text, AllocError>

@@ -1,5 +1,5 @@
 // What a run makes before its first write.
-use dl_base::{Bytes, List, Text};
+use texts::{Bytes, List, Text};
 
 /// A file that is to be written.
 #[derive(Drop)]

@@ -5,7 +5,7 @@ ghost use Rattle.run_steps.specs.Stops.{IsDue, Grew};
 
 use crate::messages::{make_file_message, make_longer_message};
 use crate::stop::Stop;
-use dl_base::{FileError, Files, Status};
+use outside::{FileError, Files, Status};
 use std::alloc::Global;
 
 /// The bytes of a file that has at most `limit` of them. A file that is not there, or longer, stops the run; so does a

@@ -8,8 +8,9 @@ ghost use Rattle.run_steps.specs.Stops.{IsDue, Grew};
 use crate::messages::make_file_message;
 use crate::names::join;
 use crate::stop::Stop;
-use dl_base::{Files, SizeError, Status, Text};
+use outside::{Files, SizeError, Status};
 use std::alloc::Global;
+use texts::Text;
 
 /// The size of a file, in bytes. A file that is not there stops the run; so does a failed call.
 pub fn measure<F: Files>(alloc: Global, name: &str, files: &mut F) -> Result<u64, Stop>

@@ -2,8 +2,9 @@
 ghost use Rattle.std.specs.Prelude.{◌≡◌};
 ghost use Rattle.run_steps.specs.declared.stop.Stop.TheVariants.{Memory};
 
-use dl_base::{Bytes, Status};
+use outside::Status;
 use std::alloc::{AllocError, AllocFailed};
+use texts::Bytes;
 
 /// Why a run stops before its first write: memory ran out, or a status with the message that says why.
 #[derive(Drop)]

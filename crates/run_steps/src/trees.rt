@@ -9,9 +9,10 @@ ghost use Rattle.run_steps.specs.Stops.{IsDue, IsOwnDue, Grew};
 use crate::messages::make_file_message;
 use crate::reading::read_file;
 use crate::stop::Stop;
-use dl_base::{Bytes, Files, Status};
 use fdt_read::{FdtFault, Flat, read};
+use outside::{Files, Status};
 use std::alloc::{AllocError, Global};
+use texts::Bytes;
 
 // The longest tree that is read, in bytes.
 const TREE_LIMIT: u64 = 1_048_576;

@@ -1,13 +1,13 @@
 // Writing what was made.
 ghost use Rattle.std.specs.Prelude.{◌≡◌, ◌≤◌, ◌<◌, ◌⊎◌, length, map, slice_index_or, [], IfSome, IfNone, IsNone, codes};
-ghost use Rattle.dl_base.specs.Outside.{Rose, and_bytes, TookPrefix};
+ghost use Rattle.outside.specs.Outside.{Rose, and_bytes, TookPrefix};
 ghost use Rattle.run_steps.specs.Messages.{line, file_message};
 ghost use Rattle.run_steps.specs.Endings.{Said, and_files, TookUpTo, TakesFiles, HasRoom};
 ghost use Rattle.run_steps.specs.Outputs.{file_of, files_of, report_of};
 
 use crate::lines::say_of_file;
 use crate::output::{Build, Output};
-use dl_base::{Outs, Sink, Status};
+use outside::{Outs, Sink, Status};
 
 /// Writes the outputs in their order, and then the report. Takes no memory. The answer is `Built`, or `Write` at the first
 /// output, or the report, that is not taken whole, which the program's line on `err` names.

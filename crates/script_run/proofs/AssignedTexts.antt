@@ -6,7 +6,7 @@ use Rattle.std.specs.List.{list_all, slice_split, onto_first, filter_map, cons_o
 use Rattle.std.specs.Str.{is_utf8}
 use Rattle.std.specs.Str.Lines.{strip_carriage_return}
 use Rattle.std.proofs.lemmas.Bool.{and_parts}
-use Rattle.dl_base.specs.Rows.{first_that_applies}
+use Rattle.texts.specs.Rows.{first_that_applies}
 use Rattle.ib_config.specs.Runs.{run_of, after_run, is_empty}
 use Rattle.ib_config.specs.Line.{lines_of, is_plain, is_bare, body_of, says_nothing, has_name, has_index, is_open, after_name, is_digit, is_blank, is_name_byte, after_index, value_part, has_bracket, is_quoted, quote_of, until, not_blank, value_of_part, tail_of_part, is_tail, is_plain_part, body_faults, line_fault, Assignment, assigned_by, assignment_of, first_line_fault, assignments_of}
 use Rattle.ib_config.specs.Variables.{Assigned, Variable, assigned_in, same_key, text_at, file_text_at, text_of}

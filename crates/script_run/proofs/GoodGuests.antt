@@ -4,7 +4,7 @@ use Rattle.std.specs.Prelude.{codes, flat_map, is_some}
 use Rattle.std.specs.Option.{option_map_or}
 use Rattle.std.specs.List.{list_all, enumerate_from}
 use Rattle.std.proofs.lemmas.Bool.{and_parts}
-use Rattle.dl_base.specs.declared.ranges.BaseSize.{BaseSize}
+use Rattle.texts.specs.declared.ranges.BaseSize.{BaseSize}
 use Rattle.ib_config.specs.Line.{is_blank}
 use Rattle.ib_config.specs.declared.guests.Guest.{Guest}
 use Rattle.ib_config.specs.declared.groups.ShmGroup.{ShmGroup}

@@ -4,7 +4,7 @@ use Rattle.std.specs.Prelude.{Result, Option, option_and_then, is_none, option_t
 use Rattle.std.specs.Option.{option_map_or}
 use Rattle.std.specs.List.{list_all, slice_split}
 use Rattle.std.specs.Str.Lines.{strip_carriage_return}
-use Rattle.dl_base.specs.Rows.{first_that_applies}
+use Rattle.texts.specs.Rows.{first_that_applies}
 use Rattle.ib_config.specs.Runs.{run_of, after_run}
 use Rattle.ib_config.specs.Line.{lines_of, body_of, says_nothing}
 use Rattle.ib_config.specs.PrivateScan.{not_feed, line_at, after_line}

@@ -4,8 +4,8 @@ use Rattle.std.specs.Prelude.{Result, codes, option_to_list}
 use Rattle.std.specs.Option.{option_map_or}
 use Rattle.std.specs.List.{list_all}
 use Rattle.std.proofs.lemmas.Bool.Decides.{nat_tests}
-use Rattle.dl_base.specs.Consecutive.{numbers}
-use Rattle.dl_base.specs.declared.ranges.BaseSize.{BaseSize}
+use Rattle.texts.specs.Consecutive.{numbers}
+use Rattle.texts.specs.declared.ranges.BaseSize.{BaseSize}
 use Rattle.ib_config.specs.Line.{lines_of, first_line_fault, assignments_of}
 use Rattle.ib_config.specs.Rules.{number_between, file_name, static_ranges, shared_regions, event_channels}
 use Rattle.ib_config.specs.Variables as table

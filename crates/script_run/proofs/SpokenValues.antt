@@ -10,9 +10,9 @@ use Rattle.std.proofs.lemmas.Bool.{and_parts}
 use Rattle.std.proofs.lemmas.Bool.Decides.{nat_tests}
 use Rattle.std.proofs.lemmas.List.Sums.{length-filter, count_by-le-length}
 use Rattle.std.proofs.lemmas.List.Splits.{length-slice_split}
-use Rattle.dl_base.specs.declared.ranges.BaseSize.{BaseSize}
-use Rattle.dl_base.specs.declared.number.NumberFault.TheVariants.{Empty, BadDigit, TooBig}
-use Rattle.dl_base.specs.NumberTexts.{is_hexadecimal, number_in}
+use Rattle.texts.specs.declared.ranges.BaseSize.{BaseSize}
+use Rattle.texts.specs.declared.number.NumberFault.TheVariants.{Empty, BadDigit, TooBig}
+use Rattle.texts.specs.NumberTexts.{is_hexadecimal, number_in}
 use Rattle.ib_config.specs.Runs.{is_empty}
 use Rattle.ib_config.specs.Line.{is_letter, is_digit, is_plain, is_blank, until}
 use Rattle.ib_config.specs.Rules.{◌>>=◌, where_true, words_of, number, number_between, is_file_byte, file_name, is_id_byte, is_shm_id, shm_id, range_of, pairs, region_of, shm_groups, port_of, port_groups, not_empty, static_ranges, shared_regions, is_linked, event_channels}

@@ -2,7 +2,7 @@
 use Rattle.std.specs.Prelude.{ℕ, Bool, true, not, ◌&&◌, ◌||◌, List, [], ◌∷◌, map, drop, Option, Some, None, Result, Ok, Err, ◌==◌, if◌then◌else◌, codes, bytes_eq, is_none, option_map, option_and_then}
 use Rattle.std.specs.List.{list_all, list_any, slice_split}
 use Rattle.std.specs.Option.{option_map_or}
-use Rattle.dl_base.specs.Rows.{first_that_applies}
+use Rattle.texts.specs.Rows.{first_that_applies}
 use Rattle.ib_config.specs.Runs.{first_is, is_empty}
 use Rattle.ib_script.specs.Text.{joined}
 use Rattle.ib_script.specs.declared.command.Command.{Command}

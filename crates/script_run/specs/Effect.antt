@@ -13,7 +13,7 @@ use Rattle.ib_script.specs.declared.command.Command.{Command}
 use Rattle.ib_script.specs.declared.command.Command.TheVariants.{Load, Addr, Resize, Mknod, Set}
 use Rattle.ib_script.specs.declared.command.Piece.{Piece}
 use Rattle.ib_script.specs.declared.command.Piece.TheVariants.{Cells, Bytes, Word}
-use Rattle.dl_base.specs.declared.loaded.Loaded.{Loaded}
+use Rattle.described.specs.declared.loaded.Loaded.{Loaded}
 use Rattle.script_run.specs.State.{State}
 use Rattle.script_run.specs.declared.machine.StepWhy.{StepWhy}
 use Rattle.script_run.specs.declared.machine.StepWhy.TheVariants.{NoNode, Exists, Deep, NoTree}

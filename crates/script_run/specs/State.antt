@@ -1,7 +1,7 @@
 -- A machine as its callers see it.
 use Rattle.std.specs.Prelude.{ℕ, List}
 use Rattle.fdt_tree.specs.Document.{Document}
-use Rattle.dl_base.specs.declared.loaded.Loaded.{Loaded}
+use Rattle.described.specs.declared.loaded.Loaded.{Loaded}
 
 -- the device tree, the files loaded so far, and the length of the tree's file in bytes
 pub record State : Type 0 where

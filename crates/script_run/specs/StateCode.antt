@@ -4,7 +4,7 @@ use Rattle.std.specs.Coded.{Coded, code_by, coded_list, coded×, coded_ℕ}
 use Rattle.fdt_tree.specs.Document.{Document}
 use Rattle.fdt_tree.specs.Assembled.{coded_document}
 use Rattle.script_run.specs.State.{State}
-use Rattle.dl_base.specs.declared.loaded.Loaded.{Loaded}
+use Rattle.described.specs.declared.loaded.Loaded.{Loaded}
 
 -- a loaded file, by its name, its address and its size
 abbrev coded_loaded : Coded Loaded

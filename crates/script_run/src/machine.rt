@@ -8,11 +8,12 @@ ghost use Rattle.fdt_tree.specs.Tree.{is_node_name, is_property_name};
 ghost use Rattle.ib_script.specs.declared.command.Command.TheVariants.{Mknod, Set};
 ghost use Rattle.script_run.specs.PrivateMoves.{IsMoved, left_behind, first_or_0, stop_of, fault_of};
 
-use dl_base::{Bytes, List, Loaded, Text};
+use described::Loaded;
 use fdt_tree::{EditFault, Tree};
 use ib_script::{Command, Piece};
 use std::alloc::{AllocError, Global};
 use std::marker::Model;
+use texts::{Bytes, List, Text};
 
 /// Why a command is refused.
 #[derive(Clone, Copy, Debug, PartialEq, Eq, Drop)]

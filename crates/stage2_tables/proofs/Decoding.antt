@@ -1,8 +1,8 @@
 -- What the words of the tables mean.
 use Rattle.std.proofs.Common.{◌≡◌, ℕ, ◌+◌, ◌*◌, ◌/◌, ◌^◌, ◌<◌, ap, ◌∙◌, arith}
-use Rattle.dl_base.specs.Maps.{Target, attributes}
-use Rattle.dl_base.specs.declared.ranges.Kind.{Kind}
-use Rattle.dl_base.specs.declared.ranges.Kind.TheVariants.{Ram, Device, Shared}
+use Rattle.described.specs.Maps.{Target, attributes}
+use Rattle.described.specs.declared.map_range.Kind.{Kind}
+use Rattle.described.specs.declared.map_range.Kind.TheVariants.{Ram, Device, Shared}
 use Rattle.stage2_walk.specs.Descriptors.{bits, frame_field, attribute_field, meaning}
 use Rattle.stage2_walk.specs.declared.descriptor.Meaning.TheVariants.{Table, Leaf}
 use Rattle.stage2_tables.specs.Words.{table_word}

@@ -6,7 +6,7 @@ use Rattle.std.proofs.lemmas.Option.{same_Some}
 use Rattle.std.proofs.lemmas.Bool.Decides.{nat_tests}
 use Rattle.std.proofs.lemmas.List.{map-append, take-append-drop, length-take-le}
 use Rattle.std.proofs.lemmas.List.Elements.{All-nil, All-cons, All-take}
-use Rattle.dl_base.specs.Consecutive.{is_in}
+use Rattle.texts.specs.Consecutive.{is_in}
 use Rattle.frame_alloc.specs.Frames.{AreFrames, AreFramesFrom, lowest_pair, without}
 use Rattle.frame_alloc.proofs.FreeFrames.{is_in_nil, is_in_cons, is_in-append, is_in-without_taken, is_in-from_without, AreFrames-without, AreFramesFrom-below, AreFramesFrom-member, lowest_pair-tells}
 use Rattle.stage2_walk.specs.Pages.{Page, frames_of, page_of, blank_page}

@@ -4,9 +4,9 @@ use Rattle.std.specs.Option.{is_some, IsSome}
 use Rattle.std.specs.List.{range_with_len, count_by, flat_map}
 use Rattle.std.proofs.lemmas.List.{length-append}
 use Rattle.std.proofs.lemmas.List.Sums.{length-filter}
-use Rattle.dl_base.specs.Consecutive.{numbers}
-use Rattle.dl_base.proofs.NumberLists.{length-map-numbers}
-use Rattle.dl_base.specs.Regions.{Map, Region, span, lies_in_block, has_table, regions_in, all_regions, table_regions, table_count}
+use Rattle.texts.specs.Consecutive.{numbers}
+use Rattle.texts.proofs.NumberLists.{length-map-numbers}
+use Rattle.described.specs.Regions.{Map, Region, span, lies_in_block, has_table, regions_in, all_regions, table_regions, table_count}
 use Rattle.stage2_tables.proofs.NumberCounts.{any-numbers-none, count-append, count-cons, count-map, count-numbers-none}
 
 -- no more are counted than there are

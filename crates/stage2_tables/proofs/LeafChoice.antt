@@ -5,12 +5,12 @@ use Rattle.std.specs.List.{slice_get, list_any}
 use Rattle.std.proofs.lemmas.Option.{none-some, same_Some}
 use Rattle.std.proofs.lemmas.Bool.{false≢true}
 use Rattle.std.proofs.lemmas.Bool.Decides.{nat_tests}
-use Rattle.dl_base.specs.Consecutive.{numbers}
-use Rattle.dl_base.specs.Maps.{Target, target_of, holds_page, AreSortedFrom, AreMapRanges, AreMerged}
-use Rattle.dl_base.specs.Regions.{Map, Region, span, region_around, is_run}
-use Rattle.dl_base.specs.declared.ranges.MapRange.{MapRange}
-use Rattle.dl_base.proofs.RegionLemmas.{both_true, IsRun, is_run_tells, is_run_from}
-use Rattle.dl_base.proofs.RunLemmas.{holds_tells, run_in_range, LiesIn, IsRunOf}
+use Rattle.texts.specs.Consecutive.{numbers}
+use Rattle.described.specs.Maps.{Target, target_of, holds_page, AreSortedFrom, AreMapRanges, AreMerged}
+use Rattle.described.specs.Regions.{Map, Region, span, region_around, is_run}
+use Rattle.described.specs.declared.map_range.MapRange.{MapRange}
+use Rattle.described.proofs.RegionLemmas.{both_true, IsRun, is_run_tells, is_run_from}
+use Rattle.described.proofs.RunLemmas.{holds_tells, run_in_range, LiesIn, IsRunOf}
 use Rattle.stage2_tables.specs.Leaves.{fits, leaf_level}
 use Rattle.stage2_tables.specs.PrivateLeaves.{IsFresh}
 use Rattle.stage2_tables.specs.Sweeps.{IsIn}

@@ -1,7 +1,7 @@
 -- A leaf and the tables on the way to it: the whole step of a sweep.
 use Rattle.std.proofs.Common.{◌≡◌, ℕ, ◌+◌, ◌-◌, ◌*◌, ◌/◌, ◌%◌, ◌^◌, ◌<◌, ◌≤◌, ◌⊎◌, Bool, true, false, cond, List, refl, sym, ap, subst, ◌∙◌, arith, inl, inr}
 use Rattle.std.specs.Prelude.{slice_index, nat_le}
-use Rattle.dl_base.specs.Regions.{Map, Region, span, region_around, table_count}
+use Rattle.described.specs.Regions.{Map, Region, span, region_around, table_count}
 use Rattle.stage2_walk.specs.Pages.{Page, frames_of}
 use Rattle.stage2_walk.proofs.WordLemmas.{frames_of-with_word}
 use Rattle.stage2_tables.specs.Words.{table_word}

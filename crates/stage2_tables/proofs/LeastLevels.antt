@@ -4,11 +4,11 @@ use Rattle.std.specs.Prelude.{slice_index}
 use Rattle.std.specs.Option.{is_some}
 use Rattle.std.specs.List.{list_any}
 use Rattle.std.proofs.lemmas.Bool.{false≢true}
-use Rattle.dl_base.specs.Consecutive.{numbers}
-use Rattle.dl_base.specs.Maps.{Target, attributes}
-use Rattle.dl_base.specs.Regions.{Map, Region, region_around, pages_in, is_run, is_block, lies_in_block, has_table, tables_of, table_count}
-use Rattle.dl_base.proofs.Ascending.{IsMember}
-use Rattle.dl_base.proofs.RegionLemmas.{IsRun, is_run_tells, is_run_from}
+use Rattle.texts.specs.Consecutive.{numbers}
+use Rattle.described.specs.Maps.{Target, attributes}
+use Rattle.described.specs.Regions.{Map, Region, region_around, pages_in, is_run, is_block, lies_in_block, has_table, tables_of, table_count}
+use Rattle.texts.proofs.Ascending.{IsMember}
+use Rattle.described.proofs.RegionLemmas.{IsRun, is_run_tells, is_run_from}
 use Rattle.stage2_walk.specs.Pages.{word_in}
 use Rattle.stage2_walk.specs.Walks.{index_at, follow, follow_word, walk_page, walk_middle, walk_root, walk}
 use Rattle.stage2_walk.specs.declared.descriptor.Meaning.TheVariants.{Invalid, Table, Leaf}

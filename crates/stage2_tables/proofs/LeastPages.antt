@@ -6,8 +6,8 @@ use Rattle.std.specs.List.{slice_get}
 use Rattle.std.proofs.lemmas.List.{length-set}
 use Rattle.std.proofs.lemmas.Option.{slice_get-get_or, slice_get_within, none-some, same_Some}
 use Rattle.std.proofs.lemmas.Bool.Decides.{eqb_tells}
-use Rattle.dl_base.specs.Regions.{Map, Region, tables_of}
-use Rattle.dl_base.proofs.NumberLists.{map-numbers-from_all}
+use Rattle.described.specs.Regions.{Map, Region, tables_of}
+use Rattle.texts.proofs.NumberLists.{map-numbers-from_all}
 use Rattle.stage2_walk.specs.Pages.{Page, page_of, word_in, frames_of, with_word}
 use Rattle.stage2_tables.specs.Least.{region_word, part_of, table_frame, table_page, least_image}
 use Rattle.stage2_tables.specs.Sweeps.{IsTable, HasFrames, AreWide}

@@ -3,11 +3,11 @@ use Rattle.std.proofs.Common.{◌≡◌, ℕ, ◌+◌, ◌-◌, ◌*◌, ◌/◌
 use Rattle.std.specs.Option.{is_some}
 use Rattle.std.specs.List.{list_any}
 use Rattle.std.proofs.lemmas.Bool.{false≢true}
-use Rattle.dl_base.specs.Maps.{Target, attributes}
-use Rattle.dl_base.specs.Regions.{Map, Region, span, pages_in, is_block, has_table}
-use Rattle.dl_base.specs.declared.ranges.Kind.{Kind}
-use Rattle.dl_base.specs.declared.ranges.Kind.TheVariants.{Ram, Device, Shared}
-use Rattle.dl_base.proofs.RegionLemmas.{IsRun}
+use Rattle.described.specs.Maps.{Target, attributes}
+use Rattle.described.specs.Regions.{Map, Region, span, pages_in, is_block, has_table}
+use Rattle.described.specs.declared.map_range.Kind.{Kind}
+use Rattle.described.specs.declared.map_range.Kind.TheVariants.{Ram, Device, Shared}
+use Rattle.described.proofs.RegionLemmas.{IsRun}
 use Rattle.stage2_walk.specs.Descriptors.{bits, frame_field, attribute_field, meaning}
 use Rattle.stage2_walk.specs.Walks.{follow, follow_word, reached}
 use Rattle.stage2_walk.specs.declared.descriptor.Meaning.{Meaning}

@@ -6,11 +6,11 @@ use Rattle.std.specs.Option.{option_and_then}
 use Rattle.std.proofs.lemmas.Option.{slice_get-get_or, same_Some}
 use Rattle.std.proofs.lemmas.Bool.{false≢true}
 use Rattle.std.proofs.lemmas.Bool.Decides.{nat_tests, eqb_tells}
-use Rattle.dl_base.specs.Consecutive.{numbers}
-use Rattle.dl_base.specs.Regions.{Map, Region, has_table, regions_in, all_regions, table_regions, tables_of, table_count}
-use Rattle.dl_base.proofs.Ascending.{IsMember, member-filter}
-use Rattle.dl_base.proofs.RegionLemmas.{both_true}
-use Rattle.dl_base.proofs.NumberLists.{length-map-numbers, get_or-map-numbers}
+use Rattle.texts.specs.Consecutive.{numbers}
+use Rattle.described.specs.Regions.{Map, Region, has_table, regions_in, all_regions, table_regions, tables_of, table_count}
+use Rattle.texts.proofs.Ascending.{IsMember, member-filter}
+use Rattle.described.proofs.RegionLemmas.{both_true}
+use Rattle.texts.proofs.NumberLists.{length-map-numbers, get_or-map-numbers}
 use Rattle.stage2_walk.specs.Pages.{Page, page_of, word_in}
 use Rattle.stage2_tables.specs.TableFrames.{AreTableFrames}
 use Rattle.stage2_tables.specs.Least.{same_region, table_frame, region_word, part_of, table_page, least_image}

@@ -6,10 +6,10 @@ use Rattle.std.specs.List.{slice_get, list_any}
 use Rattle.std.proofs.lemmas.Option.{slice_get_within}
 use Rattle.std.proofs.lemmas.Bool.{false≢true}
 use Rattle.std.proofs.lemmas.Bool.Decides.{nat_tests}
-use Rattle.dl_base.specs.Consecutive.{numbers}
-use Rattle.dl_base.specs.Regions.{Map, Region, span, region_around, is_run, is_block, tables_of, table_count}
-use Rattle.dl_base.proofs.Ascending.{IsMember}
-use Rattle.dl_base.proofs.RegionLemmas.{both_true}
+use Rattle.texts.specs.Consecutive.{numbers}
+use Rattle.described.specs.Regions.{Map, Region, span, region_around, is_run, is_block, tables_of, table_count}
+use Rattle.texts.proofs.Ascending.{IsMember}
+use Rattle.described.proofs.RegionLemmas.{both_true}
 use Rattle.stage2_walk.specs.Pages.{Page, word_in, with_word, frames_of}
 use Rattle.stage2_tables.specs.Words.{table_word}
 use Rattle.stage2_tables.specs.Least.{region_word, part_of}

@@ -1,6 +1,6 @@
 -- Aligned regions that share a page lie in one another.
 use Rattle.std.proofs.Common.{◌≡◌, ℕ, zero, suc, ◌+◌, ◌%◌, ◌<◌, ◌≤◌, arith}
-use Rattle.dl_base.specs.Regions.{Region, span}
+use Rattle.described.specs.Regions.{Region, span}
 
 -- a region of level 0 to 3 begins at a multiple of its pages
 abbrev pub IsAligned : Region → Type 0

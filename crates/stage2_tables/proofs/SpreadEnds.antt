@@ -6,9 +6,9 @@ use Rattle.std.specs.List.{slice_get}
 use Rattle.std.proofs.lemmas.Option.{slice_get-get_or, same_Some}
 use Rattle.std.proofs.lemmas.List.{get_or-replicate, length-replicate}
 use Rattle.std.proofs.lemmas.Bool.Decides.{nat_tests}
-use Rattle.dl_base.specs.Maps.{Target, target_of, AreMapRanges}
-use Rattle.dl_base.specs.Regions.{Map, table_count}
-use Rattle.dl_base.specs.declared.ranges.MapRange.{MapRange}
+use Rattle.described.specs.Maps.{Target, target_of, AreMapRanges}
+use Rattle.described.specs.Regions.{Map, table_count}
+use Rattle.described.specs.declared.map_range.MapRange.{MapRange}
 use Rattle.stage2_walk.specs.Pages.{Page, word_in, frames_of, blank_page, page_of}
 use Rattle.stage2_walk.specs.TableImages.{TableImage}
 use Rattle.stage2_tables.specs.TableFrames.{AreTableFrames}

@@ -4,10 +4,10 @@ use Rattle.std.specs.Option.{is_some, IsSome}
 use Rattle.std.specs.List.{slice_get}
 use Rattle.std.proofs.lemmas.Option.{slice_get-get_or, slice_get_within, none-some, same_Some}
 use Rattle.std.proofs.lemmas.Bool.{false≢true}
-use Rattle.dl_base.specs.Maps.{Target, target_of, holds_page, AreSortedFrom, AreMapRanges}
-use Rattle.dl_base.specs.Regions.{Map, Region, span, table_count}
-use Rattle.dl_base.specs.declared.ranges.MapRange.{MapRange}
-use Rattle.dl_base.proofs.RunLemmas.{holds_tells}
+use Rattle.described.specs.Maps.{Target, target_of, holds_page, AreSortedFrom, AreMapRanges}
+use Rattle.described.specs.Regions.{Map, Region, span, table_count}
+use Rattle.described.specs.declared.map_range.MapRange.{MapRange}
+use Rattle.described.proofs.RunLemmas.{holds_tells}
 use Rattle.stage2_walk.specs.Pages.{Page, frames_of}
 use Rattle.stage2_walk.specs.TableImages.{TableImage}
 use Rattle.stage2_tables.specs.Leaves.{fits, leaf_level}

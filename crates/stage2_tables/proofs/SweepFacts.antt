@@ -4,8 +4,8 @@ use Rattle.std.specs.Option.{is_some}
 use Rattle.std.specs.List.{list_any}
 use Rattle.std.proofs.lemmas.Bool.{false≢true}
 use Rattle.std.proofs.lemmas.Option.{same_Some}
-use Rattle.dl_base.specs.Regions.{Map, Region, span, region_around, is_block, lies_in_block, pages_in}
-use Rattle.dl_base.proofs.RegionLemmas.{both_true}
+use Rattle.described.specs.Regions.{Map, Region, span, region_around, is_block, lies_in_block, pages_in}
+use Rattle.described.proofs.RegionLemmas.{both_true}
 use Rattle.stage2_tables.specs.Least.{part_of}
 use Rattle.stage2_tables.specs.Sweeps.{IsIn, IsTable}
 use Rattle.stage2_tables.proofs.Nesting.{nested}

@@ -5,10 +5,10 @@ use Rattle.std.specs.Option.{is_some, IsSome}
 use Rattle.std.specs.List.{slice_get, list_any}
 use Rattle.std.proofs.lemmas.Option.{none-some, same_Some}
 use Rattle.std.proofs.lemmas.Bool.{false≢true}
-use Rattle.dl_base.specs.Consecutive.{numbers}
-use Rattle.dl_base.specs.Maps.{Target}
-use Rattle.dl_base.specs.Regions.{Map, Region, span, region_around, pages_in, is_run, is_block, lies_in_block, tables_of, table_count}
-use Rattle.dl_base.proofs.RegionLemmas.{is_run_tells}
+use Rattle.texts.specs.Consecutive.{numbers}
+use Rattle.described.specs.Maps.{Target}
+use Rattle.described.specs.Regions.{Map, Region, span, region_around, pages_in, is_run, is_block, lies_in_block, tables_of, table_count}
+use Rattle.described.proofs.RegionLemmas.{is_run_tells}
 use Rattle.stage2_walk.specs.Pages.{Page, word_in}
 use Rattle.stage2_tables.specs.Least.{region_word, part_of}
 use Rattle.stage2_tables.specs.Sweeps.{HasBefore, Begun, IsTable, IsCounted, IsWrittenTo}

@@ -3,12 +3,12 @@ use Rattle.std.proofs.Common.{◌≡◌, ◌≢◌, ℕ, zero, suc, ◌+◌, ◌
 use Rattle.std.specs.Prelude.{slice_index}
 use Rattle.std.specs.Option.{is_some, IsSome}
 use Rattle.std.specs.List.{slice_get, list_any, range_with_len}
-use Rattle.dl_base.specs.Consecutive.{numbers}
-use Rattle.dl_base.proofs.RegionLemmas.{both_true}
+use Rattle.texts.specs.Consecutive.{numbers}
+use Rattle.described.proofs.RegionLemmas.{both_true}
 use Rattle.stage2_tables.proofs.TableOrder.{table_regular, tables_in_order, key_of}
 use Rattle.std.proofs.lemmas.Option.{same_Some}
 use Rattle.std.proofs.lemmas.Bool.{false≢true}
-use Rattle.dl_base.specs.Regions.{Map, Region, span, region_around, is_block, lies_in_block, pages_in, has_table, tables_of, table_count}
+use Rattle.described.specs.Regions.{Map, Region, span, region_around, is_block, lies_in_block, pages_in, has_table, tables_of, table_count}
 use Rattle.stage2_walk.specs.Pages.{Page, word_in, with_word}
 use Rattle.stage2_walk.proofs.WordLemmas.{word_in-with_word_same, word_in-with_word_other}
 use Rattle.stage2_tables.specs.Least.{region_word, part_of}

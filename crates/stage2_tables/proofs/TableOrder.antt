@@ -2,9 +2,9 @@
 use Rattle.std.proofs.Common.{◌≡◌, ℕ, zero, suc, ◌+◌, ◌*◌, ◌%◌, ◌^◌, ◌<◌, ◌≤◌, ◌⊎◌, true, List, [], ◌∷◌, ◌++◌, map, Some, refl, ap, subst, arith, inl, inr}
 use Rattle.std.specs.List.{slice_get, flat_map, range_with_len}
 use Rattle.std.proofs.lemmas.Option.{none-some, same_Some}
-use Rattle.dl_base.specs.Consecutive.{numbers}
-use Rattle.dl_base.specs.Regions.{Map, Region, span, has_table, regions_in, all_regions, table_regions}
-use Rattle.dl_base.proofs.Ascending.{AreAscendingFrom, IsMember, filter-ascending, member-from_filter}
+use Rattle.texts.specs.Consecutive.{numbers}
+use Rattle.described.specs.Regions.{Map, Region, span, has_table, regions_in, all_regions, table_regions}
+use Rattle.texts.proofs.Ascending.{AreAscendingFrom, IsMember, filter-ascending, member-from_filter}
 use Rattle.stage2_tables.specs.Sweeps.{IsTable}
 
 -- a region of level 1 or 2 in the guest's pages

@@ -1,6 +1,6 @@
 -- For private contracts and proofs: what holds of frames and pages while tables are drawn.
 use Rattle.std.specs.Prelude.{◌≡◌, ℕ, ◌^◌, ◌<◌, false, List, [], ◌∷◌, map}
-use Rattle.dl_base.specs.Consecutive.{is_in}
+use Rattle.texts.specs.Consecutive.{is_in}
 use Rattle.stage2_walk.specs.Pages.{Page, frames_of, blank_page}
 
 -- frames below 2^28, of which no two are equal

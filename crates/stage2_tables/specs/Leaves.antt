@@ -1,6 +1,6 @@
 -- For private contracts and proofs: which word maps the next pages of a range: a block of 1 GiB or 2 MiB where one begins, and else a page.
 use Rattle.std.specs.Prelude.{ℕ, ◌-◌, ◌%◌, ◌==◌, ◌&&◌, nat_le, if◌then◌else◌, min, Bool}
-use Rattle.dl_base.specs.Regions.{span}
+use Rattle.described.specs.Regions.{span}
 
 -- a region of this level begins at a page and at its frame, and lies in the pages that are left
 abbrev pub fits : ℕ → ℕ → ℕ → ℕ → Bool

@@ -1,6 +1,6 @@
 -- What private contracts say of leaves.
 use Rattle.std.specs.Prelude.{◌≡◌, ℕ, ◌-◌, ◌≤◌, true}
-use Rattle.dl_base.specs.Regions.{Map, region_around, is_run}
+use Rattle.described.specs.Regions.{Map, region_around, is_run}
 
 -- no larger run holds a page, but one that begins there
 abbrev pub IsFresh : Map → ℕ → Type 0

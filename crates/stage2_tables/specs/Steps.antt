@@ -1,6 +1,6 @@
 -- For private contracts and proofs: what a sweep does at a leaf: it links the tables on the way that are not linked yet, and writes the leaf's word.
 use Rattle.std.specs.Prelude.{ℕ, ◌+◌, ◌/◌, ◌%◌, ◌^◌, ◌<◌, ◌≤◌, ◌==◌, nat_le, nat_lt, if◌then◌else◌, List, slice_index}
-use Rattle.dl_base.specs.Regions.{span}
+use Rattle.described.specs.Regions.{span}
 use Rattle.stage2_walk.specs.Pages.{Page, frames_of, with_word}
 use Rattle.stage2_tables.specs.Words.{table_word}
 use Rattle.stage2_tables.specs.declared.sweep.Sweep.{Sweep}

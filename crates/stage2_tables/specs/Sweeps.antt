@@ -1,6 +1,6 @@
 -- For private contracts and proofs: an image of least tables that is swept up to a page, in ascending order; at that page, also the regions below a level are begun.
 use Rattle.std.specs.Prelude.{◌≡◌, ℕ, ◌+◌, ◌-◌, ◌*◌, ◌^◌, ◌<◌, ◌≤◌, ◌⊎◌, List, [], ◌∷◌, length, slice_get, slice_index, Some, IsSome}
-use Rattle.dl_base.specs.Regions.{Map, Region, span, tables_of, table_count}
+use Rattle.described.specs.Regions.{Map, Region, span, tables_of, table_count}
 use Rattle.stage2_walk.specs.Pages.{Page, word_in, frames_of}
 use Rattle.stage2_walk.specs.TableImages.{TableImage}
 use Rattle.stage2_tables.specs.TableFrames.{AreTableFrames}

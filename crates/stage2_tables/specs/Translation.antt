@@ -1,7 +1,7 @@
 -- Which addresses an image translates.
 use Rattle.std.specs.Prelude.{◌≡◌, ℕ, ◌+◌, ◌*◌, ◌/◌, ◌%◌, ◌^◌, ◌<◌, List, Option, Some, None}
-use Rattle.dl_base.specs.Maps.{Target, attributes, target_of}
-use Rattle.dl_base.specs.declared.ranges.MapRange.{MapRange}
+use Rattle.described.specs.Maps.{Target, attributes, target_of}
+use Rattle.described.specs.declared.map_range.MapRange.{MapRange}
 use Rattle.stage2_walk.specs.Pages.{Page}
 use Rattle.stage2_walk.specs.Walks.{walk, reached}
 use Rattle.stage2_walk.specs.declared.walk.Step.{Step}

@@ -1,8 +1,8 @@
 // Building the tables of a map in ranges.
 ghost use Rattle.std.specs.Prelude.{◌≡◌, ◌≤◌, All, false, IsTrue, length, IfOk, IfErr, OnOk, OnErr, Some};
-ghost use Rattle.dl_base.specs.Consecutive.{is_in};
-ghost use Rattle.dl_base.specs.Maps.{AreMapRanges, AreMerged, target_of};
-ghost use Rattle.dl_base.specs.Regions.{table_count};
+ghost use Rattle.texts.specs.Consecutive.{is_in};
+ghost use Rattle.described.specs.Maps.{AreMapRanges, AreMerged, target_of};
+ghost use Rattle.described.specs.Regions.{table_count};
 ghost use Rattle.frame_alloc.specs.Frames.{lowest_pair};
 ghost use Rattle.stage2_walk.specs.Pages.{frames_of};
 ghost use Rattle.stage2_walk.specs.Files.{has_root};
@@ -14,10 +14,11 @@ ghost use Rattle.stage2_tables.specs.Faults.{FaultAsStated};
 use crate::draw::draw_image;
 use crate::fault::TableFault;
 use crate::spread::{count_tables, spread};
-use dl_base::{List, MapRange};
+use described::MapRange;
 use frame_alloc::FramePool;
 use stage2_walk::Image;
 use std::alloc::Global;
+use texts::List;
 
 /// Builds the least stage 2 tables of a map in ranges, in frames of the pool (Arm ARM, VMSAv8-64 stage 2, 4 KB granule, two
 /// concatenated root tables at level 1). A region of 1 GiB or 2 MiB is one block wherever all its pages go to consecutive

@@ -1,6 +1,6 @@
 // Drawing the frames of tables from a pool.
 ghost use Rattle.std.specs.Prelude.{◌≡◌, ◌+◌, ◌-◌, ◌%◌, ◌^◌, ◌<◌, ◌≤◌, [], ◌∷◌, ◌++◌, All, false, length, take, drop, Some, IfOk, IfErr, OnOk, OnErr};
-ghost use Rattle.dl_base.specs.Consecutive.{is_in};
+ghost use Rattle.texts.specs.Consecutive.{is_in};
 ghost use Rattle.frame_alloc.specs.Frames.{lowest_pair};
 ghost use Rattle.stage2_walk.specs.Pages.{frames_of};
 ghost use Rattle.stage2_tables.specs.BlankPages.{AreApart, AreBlank};

@@ -1,12 +1,12 @@
 // The words that map pages and blocks (Arm ARM, VMSAv8-64 stage 2 descriptors, 4 KB granule).
 ghost use Rattle.std.specs.Prelude.{◌≡◌, ◌≤◌, ◌<◌, ◌^◌, ◌+◌};
-ghost use Rattle.dl_base.specs.Maps.{attributes};
+ghost use Rattle.described.specs.Maps.{attributes};
 ghost use Rattle.stage2_tables.specs.Leaves.{fits, leaf_level, stretch};
 ghost use Rattle.stage2_tables.specs.Least.{leaf_word};
 
 use crate::regions::SMALL;
 use crate::words::attributes;
-use dl_base::Kind;
+use described::Kind;
 use stage2_walk::pages_spanned;
 
 /// Whether a word of a level can map the next pages: a page, the frame that it goes to, and how many pages are left.

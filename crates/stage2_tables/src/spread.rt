@@ -1,8 +1,8 @@
 // Sweeping over the ranges of a map: once to count its tables, and once to write them.
 ghost use Rattle.std.specs.Prelude.{◌≡◌, ℕ, ◌≤◌, ◌<◌, ◌^◌, ◌+◌, length, map, slice_get, Some};
-ghost use Rattle.dl_base.specs.Maps.{AreMapRanges, AreMerged, target_of};
-ghost use Rattle.dl_base.specs.declared.ranges.MapRange.{MapRange};
-ghost use Rattle.dl_base.specs.Regions.{table_count};
+ghost use Rattle.described.specs.Maps.{AreMapRanges, AreMerged, target_of};
+ghost use Rattle.described.specs.declared.map_range.MapRange.{MapRange};
+ghost use Rattle.described.specs.Regions.{table_count};
 ghost use Rattle.stage2_walk.specs.Pages.{frames_of, blank_page};
 ghost use Rattle.stage2_tables.specs.TableFrames.{AreTableFrames};
 ghost use Rattle.stage2_tables.specs.Least.{least_image};
@@ -14,7 +14,7 @@ use crate::leaf::{leaf_level, leaf_word, stretch};
 use crate::least::add_leaf;
 use crate::regions::SMALL;
 use crate::sweep::{Sweep, begin, enter_tables};
-use dl_base::MapRange;
+use described::MapRange;
 use stage2_walk::{Image, pages_spanned};
 
 /// Counts the tables that one of the ranges of a merged map needs besides those before it.

@@ -1,7 +1,7 @@
 -- The definitions on small images.
 use Rattle.std.proofs.Common.{◌≡◌, ◌+◌, ◌*◌, List, [], ◌∷◌, ◌++◌, length, take, Some, None, Ok, Err, refl}
 use Rattle.std.specs.Prelude.{codes}
-use Rattle.dl_base.specs.Consecutive.{numbers, is_in}
+use Rattle.texts.specs.Consecutive.{numbers, is_in}
 use Rattle.stage2_walk.specs.Pages.{Page, word_in, blank_page, with_word, number_at, pages_at}
 use Rattle.stage2_walk.specs.Descriptors.{meaning}
 use Rattle.stage2_walk.specs.Walks.{walk, walk_root, walk_middle, walk_page}

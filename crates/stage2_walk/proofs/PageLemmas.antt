@@ -4,8 +4,8 @@ use Rattle.std.specs.List.{slice_get, slice_set}
 use Rattle.std.specs.Option.{option_and_then, is_some}
 use Rattle.std.proofs.lemmas.Option.{slice_get-get_or, slice_get_past, same_Some, none-some}
 use Rattle.std.proofs.lemmas.List.{length-set, get_or-set_same, get_or-set_other}
-use Rattle.dl_base.specs.Consecutive.{numbers}
-use Rattle.dl_base.proofs.NumberLists.{numbers-zero, length-map-numbers, get_or-map-numbers, same-map-numbers, map-map-numbers, map-numbers-from_all, find-map-numbers, find-map-numbers-none}
+use Rattle.texts.specs.Consecutive.{numbers}
+use Rattle.texts.proofs.NumberLists.{numbers-zero, length-map-numbers, get_or-map-numbers, same-map-numbers, map-map-numbers, map-numbers-from_all, find-map-numbers, find-map-numbers-none}
 use Rattle.stage2_walk.specs.Pages.{Page, page_of, frames_of, word_in, page_with_word, with_word, number_at, page_at, pages_at}
 use Rattle.stage2_walk.specs.Places.{place_in}
 use Rattle.stage2_walk.specs.ImageViews.{IsIndex}

@@ -8,8 +8,8 @@ use Rattle.std.proofs.lemmas.Bool.Decides.{nat_tests, eqb_tells}
 use Rattle.std.proofs.lemmas.List.{length-map, length-drop}
 use Rattle.std.proofs.lemmas.Map.Keys.{below_from_sorted}
 use Rattle.std.proofs.lemmas.Option.{same_Some, none-some}
-use Rattle.dl_base.specs.Consecutive.{numbers}
-use Rattle.dl_base.proofs.NumberLists.{find-map-numbers, find-map-numbers-none, same-map-numbers}
+use Rattle.texts.specs.Consecutive.{numbers}
+use Rattle.texts.proofs.NumberLists.{find-map-numbers, find-map-numbers-none, same-map-numbers}
 use Rattle.stage2_walk.specs.Pages.{Page, page_of, number_at, page_at, pages_at}
 use Rattle.stage2_walk.specs.Places.{place_in, AreAscending}
 use Rattle.stage2_walk.specs.PrivatePlaceMaps.{ArePlaces, entry_of}

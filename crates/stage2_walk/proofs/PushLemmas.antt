@@ -7,8 +7,8 @@ use Rattle.stage2_walk.proofs.PlaceLemmas.{place_in-absent, place_in-insert_own,
 use Rattle.std.proofs.lemmas.List.{length-append, length-replicate, get_or_append_left, get_or-append_right, get_or-replicate, take_all}
 use Rattle.std.proofs.lemmas.Bool.Decides.{eqb_tells}
 use Rattle.byteorder.specs.Endian.{little_from}
-use Rattle.dl_base.specs.Consecutive.{numbers}
-use Rattle.dl_base.proofs.NumberLists.{same-map-numbers, map-numbers-more, map-numbers-from_all}
+use Rattle.texts.specs.Consecutive.{numbers}
+use Rattle.texts.proofs.NumberLists.{same-map-numbers, map-numbers-more, map-numbers-from_all}
 use Rattle.stage2_walk.specs.Pages.{Page, blank_page, number_at, page_at, pages_at}
 use Rattle.stage2_walk.specs.Places.{place_in}
 use Rattle.stage2_walk.specs.ImageViews.{IsIndex}

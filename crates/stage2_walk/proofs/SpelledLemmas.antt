@@ -6,7 +6,7 @@ use Rattle.std.proofs.Math.Seq.{take-add, drop-cons}
 use Rattle.std.specs.List.{flat_map, range_with_len}
 use Rattle.std.specs.Int.{byte_at, bytes_low_first}
 use Rattle.byteorder.specs.Endian.{little_from, little_bytes}
-use Rattle.dl_base.specs.Consecutive.{numbers}
+use Rattle.texts.specs.Consecutive.{numbers}
 use Rattle.stage2_walk.specs.Pages.{number_at, page_at, pages_at}
 use Rattle.stage2_walk.specs.Files.{spelled_page}
 

@@ -1,6 +1,6 @@
 -- What a stage 2 descriptor means (Arm ARM, VMSAv8-64 stage 2 translation, 4 KB granule, 48-bit output addresses).
 use Rattle.std.specs.Prelude.{ℕ, ◌+◌, ◌*◌, ◌/◌, ◌%◌, ◌^◌, ◌==◌, if◌then◌else◌}
-use Rattle.dl_base.specs.Regions.{span}
+use Rattle.described.specs.Regions.{span}
 use Rattle.stage2_walk.specs.declared.descriptor.Meaning.{Meaning}
 use Rattle.stage2_walk.specs.declared.descriptor.Meaning.TheVariants.{Invalid, Reserved, Table, Leaf}
 

@@ -2,7 +2,7 @@
 use Rattle.std.specs.Prelude.{ℕ, ◌+◌, ◌*◌, ◌^◌, ◌%◌, ◌==◌, ◌&&◌, not, nat_lt, nat_le, if◌then◌else◌, Bool, List, ◌++◌, length, take, find, position, flat_map, slice_index, codes, Option, Some, None, Result, Ok, Err}
 use Rattle.std.specs.List.{starts_with}
 use Rattle.byteorder.specs.Endian.{little_bytes}
-use Rattle.dl_base.specs.Consecutive.{numbers, is_in}
+use Rattle.texts.specs.Consecutive.{numbers, is_in}
 use Rattle.stage2_walk.specs.Pages.{Page, frames_of, number_at, pages_at}
 use Rattle.stage2_walk.specs.declared.image_fault.ImageFault.{ImageFault}
 use Rattle.stage2_walk.specs.declared.image_fault.ImageFault.TheVariants.{Magic, Length, TooHigh, FrameTwice, Root}

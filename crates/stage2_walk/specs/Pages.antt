@@ -1,7 +1,7 @@
 -- The pages of a table image: each is a host frame with its 512 words (Arm ARM, VMSAv8-64, 4 KB granule).
 use Rattle.std.specs.Prelude.{ℕ, ◌+◌, ◌*◌, ◌==◌, if◌then◌else◌, List, map, find, replicate, slice_get, slice_set, Option, option_and_then}
 use Rattle.byteorder.specs.Endian.{little_from}
-use Rattle.dl_base.specs.Consecutive.{numbers}
+use Rattle.texts.specs.Consecutive.{numbers}
 
 -- a host frame and its words, 512 of them in an image
 pub record Page : Type 0 where

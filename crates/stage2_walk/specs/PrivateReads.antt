@@ -2,7 +2,7 @@
 use Rattle.std.specs.Prelude.{◌≡◌, ◌≢◌, ℕ, ◌+◌, ◌/◌, ◌^◌, ◌<◌, ◌≤◌, false, List, [], ◌∷◌, Some, None, IsSome, Ok, Err}
 use Rattle.std.specs.BTreeSet.{BTreeSet, contains}
 use Rattle.std.specs.Ordering.{nat_cmp}
-use Rattle.dl_base.specs.Consecutive.{is_in}
+use Rattle.texts.specs.Consecutive.{is_in}
 use Rattle.stage2_walk.specs.Pages.{Page, page_of}
 use Rattle.stage2_walk.specs.Walks.{walk}
 use Rattle.stage2_walk.specs.Runs.{PageMap}

@@ -1,6 +1,6 @@
 -- The stage 2 walk over an image (Arm ARM, VMSAv8-64 stage 2 translation, 4 KB granule, two concatenated root tables at level 1).
 use Rattle.std.specs.Prelude.{ℕ, ◌+◌, ◌*◌, ◌/◌, ◌%◌, ◌^◌, List, Option, Some, None}
-use Rattle.dl_base.specs.Regions.{span}
+use Rattle.described.specs.Regions.{span}
 use Rattle.stage2_walk.specs.Pages.{Page, word_in}
 use Rattle.stage2_walk.specs.Descriptors.{meaning}
 use Rattle.stage2_walk.specs.declared.descriptor.Meaning.{Meaning}

@@ -1,6 +1,6 @@
 // What a stage 2 descriptor means.
 ghost use Rattle.std.specs.Prelude.{◌≡◌, ◌≤◌, ◌<◌, ◌^◌, ◌+◌};
-ghost use Rattle.dl_base.specs.Regions.{span};
+ghost use Rattle.described.specs.Regions.{span};
 ghost use Rattle.stage2_walk.specs.Descriptors.{meaning, leaf, bits, frame_field, attribute_field};
 ghost use Rattle.stage2_walk.specs.MeaningFrames.{HasLowFrame};
 

@@ -1,6 +1,6 @@
 // What a level of the walk makes of an address: the index of its word, and its offset in the region of that word.
 ghost use Rattle.std.specs.Prelude.{◌≡◌, ◌≤◌, ◌<◌, ◌^◌, ◌+◌, ◌*◌, ◌%◌};
-ghost use Rattle.dl_base.specs.Regions.{span};
+ghost use Rattle.described.specs.Regions.{span};
 ghost use Rattle.stage2_walk.specs.Walks.{index_at};
 
 /// How many pages a word of a level spans: 2^18, 2^9 and 1 at levels 1, 2 and 3.

@@ -1,7 +1,7 @@
 -- The tests of two addresses, where both are one.
 use Rattle.std.proofs.Common.{◌≡◌, refl, ap, ℕ, ◌+◌, ◌%◌, ◌^◌, [], ◌∷◌, true, false, Bool}
 use Rattle.std.specs.Prelude.{◌==◌, ◌||◌, not, nat_lt}
-use Rattle.dl_base.specs.Reasons.{is_not_page, is_too_high}
+use Rattle.described.specs.Reasons.{is_not_page, is_too_high}
 
 twice : (a b : Bool) → (a || (a || b)) ≡ (a || b)
 twice true b = refl

@@ -3,22 +3,22 @@ use Rattle.std.proofs.Common.{◌≡◌, ◌∙◌, refl, ℕ, ◌+◌, ◌%◌,
 use Rattle.std.specs.Prelude.{Option, ◌==◌, ◌||◌, not, nat_lt, nat_le, is_none, unwrap_or}
 use Rattle.std.specs.Option.{option_map_or}
 use Rattle.std.proofs.lemmas.Bool.Decides.{nat_tests}
-use Rattle.dl_base.specs.declared.item.Described.{Described}
-use Rattle.dl_base.specs.declared.item.Item.{Item}
-use Rattle.dl_base.specs.declared.item.Part.TheVariants as parts
-use Rattle.dl_base.specs.declared.item.What.{What}
-use Rattle.dl_base.specs.declared.item.What.TheVariants as whats
-use Rattle.dl_base.specs.declared.why.Why.{Why}
-use Rattle.dl_base.specs.declared.why.Why.TheVariants.{TooMany, Missing, BadValue, BadLength, NotPage, TooHigh, TooLarge}
+use Rattle.described.specs.declared.item.Described.{Described}
+use Rattle.described.specs.declared.item.Item.{Item}
+use Rattle.described.specs.declared.item.Part.TheVariants as parts
+use Rattle.described.specs.declared.item.What.{What}
+use Rattle.described.specs.declared.item.What.TheVariants as whats
+use Rattle.described.specs.declared.why.Why.{Why}
+use Rattle.described.specs.declared.why.Why.TheVariants.{TooMany, Missing, BadValue, BadLength, NotPage, TooHigh, TooLarge}
 use Rattle.fdt_tree.specs.Tree.{Tree}
 use Rattle.static_links.specs.declared.shared.SharedRegion.{SharedRegion}
 use Rattle.fdt_nodes.specs.Nodes.{Node}
-use Rattle.dl_base.specs.Reasons.{where_so, first_reason, described, is_not_page, is_too_high, is_too_large}
+use Rattle.described.specs.Reasons.{where_so, first_reason, described, is_not_page, is_too_high, is_too_large}
 use Rattle.fdt_nodes.specs.NodeItems.{item_of}
 use Rattle.static_links.specs.Shared.{region, of_region, addresses, shared_id, is_owner, lacks_region, has_bad_value, shared_reason, shared_what, shared_from, shared_items, shared_memory, children_with}
 use Rattle.static_links.specs.Channels.{Channel, Ends, ends_of, other_end, event_channel}
 use Rattle.static_links.specs.Ports.{linked_to, port_item, port_reason, port_what, ports_after, port_items}
-use Rattle.dl_base.specs.Sound.{AreWholePages, IsSound, IsSoundRegion, SoundUnless, AreSound}
+use Rattle.described.specs.Sound.{AreWholePages, IsSound, IsSoundRegion, SoundUnless, AreSound}
 use Rattle.static_links.proofs.RegionTests.{twice_not_page, twice_too_high}
 
 -- an item is sound where it says so without a reason

@@ -1,17 +1,17 @@
 -- The event channel ports of a domain.
 use Rattle.std.specs.Prelude.{ℕ, ◌==◌, ◌||◌, not, nat_le, Bool, false, List, [], ◌∷◌, ◌++◌, find, length, codes, is_none, Option, option_map, option_and_then}
 use Rattle.std.specs.Option.{option_map_or}
-use Rattle.dl_base.specs.declared.item.Described.{Described}
-use Rattle.dl_base.specs.declared.item.Item.{Item}
-use Rattle.dl_base.specs.declared.item.Part.TheVariants as parts
-use Rattle.dl_base.specs.declared.item.What.{What}
-use Rattle.dl_base.specs.declared.item.What.TheVariants as whats
-use Rattle.dl_base.specs.declared.why.Why.{Why}
-use Rattle.dl_base.specs.declared.why.Why.TheVariants.{TooMany, Missing, BadLength, BadValue, PortTaken, EvtchnLink}
+use Rattle.described.specs.declared.item.Described.{Described}
+use Rattle.described.specs.declared.item.Item.{Item}
+use Rattle.described.specs.declared.item.Part.TheVariants as parts
+use Rattle.described.specs.declared.item.What.{What}
+use Rattle.described.specs.declared.item.What.TheVariants as whats
+use Rattle.described.specs.declared.why.Why.{Why}
+use Rattle.described.specs.declared.why.Why.TheVariants.{TooMany, Missing, BadLength, BadValue, PortTaken, EvtchnLink}
 use Rattle.fdt_tree.specs.Tree.{Property, Tree}
 use Rattle.fdt_nodes.specs.Nodes.{Node}
 use Rattle.fdt_nodes.specs.Values.{has}
-use Rattle.dl_base.specs.Reasons.{where_so, first_reason, described}
+use Rattle.described.specs.Reasons.{where_so, first_reason, described}
 use Rattle.fdt_nodes.specs.NodeItems.{item_of}
 use Rattle.static_links.specs.Shared.{children_with}
 use Rattle.static_links.specs.Channels.{Channel, Ends, event_channel, ends_of, is_port, other_end}

@@ -1,20 +1,20 @@
 -- The regions of memory that a domain shares with others.
 use Rattle.std.specs.Prelude.{ℕ, ◌+◌, ◌==◌, ◌*◌, ◌&&◌, ◌||◌, not, nat_le, Bool, false, List, [], ◌∷◌, ◌++◌, length, filter, codes, is_none, Option, Some, None, option_and_then, unwrap_or, if◌then◌else◌}
 use Rattle.std.specs.Option.{option_map_or}
-use Rattle.dl_base.specs.declared.item.Described.{Described}
-use Rattle.dl_base.specs.declared.ranges.BaseSize.{BaseSize}
-use Rattle.dl_base.specs.declared.item.Part.TheVariants as parts
-use Rattle.dl_base.specs.declared.item.What.{What}
-use Rattle.dl_base.specs.declared.item.What.TheVariants as whats
-use Rattle.dl_base.specs.declared.why.Why.{Why}
-use Rattle.dl_base.specs.declared.why.Why.TheVariants.{TooMany, Missing, BadValue, BadLength, NotPage, TooHigh, TooLarge}
+use Rattle.described.specs.declared.item.Described.{Described}
+use Rattle.texts.specs.declared.ranges.BaseSize.{BaseSize}
+use Rattle.described.specs.declared.item.Part.TheVariants as parts
+use Rattle.described.specs.declared.item.What.{What}
+use Rattle.described.specs.declared.item.What.TheVariants as whats
+use Rattle.described.specs.declared.why.Why.{Why}
+use Rattle.described.specs.declared.why.Why.TheVariants.{TooMany, Missing, BadValue, BadLength, NotPage, TooHigh, TooLarge}
 use Rattle.fdt_tree.specs.Tree.{Bytes, property_of}
 use Rattle.fdt_nodes.specs.declared.entries.Window.{Window}
 use Rattle.fdt_nodes.specs.Nodes.{Node, children}
 use Rattle.fdt_nodes.specs.Values.{has, is_value, is_compatible, string_in}
 use Rattle.fdt_nodes.specs.Entries.{window_cells, shared_window, region_cells, region as entry_region}
 use Rattle.static_links.specs.declared.shared.SharedRegion.{SharedRegion}
-use Rattle.dl_base.specs.Reasons.{where_so, first_reason, described, is_not_page, is_too_high, is_too_large}
+use Rattle.described.specs.Reasons.{where_so, first_reason, described, is_not_page, is_too_high, is_too_large}
 use Rattle.fdt_nodes.specs.NodeItems.{item_of}
 
 -- the node has a binding (2.3.1)

@@ -5,15 +5,16 @@ ghost use Rattle.fdt_tree.specs.Document.{properties_of};
 ghost use Rattle.fdt_nodes.specs.Held.{node_of};
 ghost use Rattle.static_links.specs.Channels.{event_channels, ends_of, other_end};
 ghost use Rattle.static_links.specs.Ports.{holds, lacks_port, port_reason, port_what, port_item, port_items};
-ghost use Rattle.dl_base.specs.Sound.{AreSound};
+ghost use Rattle.described.specs.Sound.{AreSound};
 ghost use Rattle.static_links.specs.PrivateHeld.{ends_at, channel_at, has_ends, IsPeer, ArePeers};
 
 use crate::channels::{End, Peer, end_of, is_port, other_end, peers};
 use crate::nodes::children_with;
-use dl_base::{Described, Item, List, Part, What, Why, described};
+use described::{Described, Item, Part, What, Why, described};
 use fdt_nodes::{has, item_of};
 use fdt_tree::{NodeId, Tree};
 use std::alloc::{AllocError, Global};
+use texts::List;
 
 /// Whether a node says no port, or has no phandle.
 fn lacks_port(tree: &Tree, node: NodeId) -> bool

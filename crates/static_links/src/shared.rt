@@ -1,17 +1,18 @@
 // The regions of memory that a domain shares with others.
 ghost use Rattle.std.specs.Prelude.{◌≡◌, ◌≤◌, ◌<◌, ◌+◌, ◌*◌, [], length, unwrap_or, IfOk};
-ghost use Rattle.dl_base.specs.Reasons.{is_not_page, is_too_high};
+ghost use Rattle.described.specs.Reasons.{is_not_page, is_too_high};
 ghost use Rattle.fdt_nodes.specs.Held.{node_of};
-ghost use Rattle.dl_base.specs.Sound.{AreSound};
+ghost use Rattle.described.specs.Sound.{AreSound};
 ghost use Rattle.static_links.specs.Shared.{full_region, short_region, addresses, region_in, region, has_id, is_owner, has_role, lacks_region, has_bad_value, shared_id, shared_reason, shared_what, shared_item, shared_items};
 
 use crate::nodes::children_with;
-use dl_base::{Bytes, Described, List, Part, What, Why, is_not_page, is_too_high, is_too_large};
+use described::{Described, Part, What, Why, is_not_page, is_too_high, is_too_large};
 use fdt_nodes::{
     has, is_value, item_of, own_cells, region as entry_region, shared_window, string_at,
 };
 use fdt_tree::{NodeId, Tree};
 use std::alloc::{AllocError, Global};
+use texts::{Bytes, List};
 
 /// A region of shared memory: its addresses and its size, in bytes. The host address may be left out.
 #[derive(Clone, Copy)]

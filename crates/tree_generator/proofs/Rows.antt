@@ -2,7 +2,7 @@
 use Rattle.std.proofs.Common.{◌≡◌, refl, [], ◌∷◌, ◌++◌, List, map, codes}
 use Rattle.std.specs.Prelude.{sum}
 use Rattle.std.specs.Fmt.{digits}
-use Rattle.dl_base.specs.Consecutive.{numbers}
+use Rattle.texts.specs.Consecutive.{numbers}
 use Rattle.fdt_tree.specs.Tree.{Bytes, Property, Tree, Trees, none, tree}
 use Rattle.hex.specs.Hex.{encode_lower, encode_with}
 use Rattle.tree_generator.specs.Generated.{generated_tree, guest_count, pages_of, tree_with, chosen, memory}

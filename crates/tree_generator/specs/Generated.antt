@@ -1,6 +1,6 @@
 -- The tree that is generated for a number.
 use Rattle.std.specs.Prelude.{ℕ, ◌+◌, ◌*◌, ◌%◌, [], ◌∷◌, map, codes}
-use Rattle.dl_base.specs.Consecutive.{numbers}
+use Rattle.texts.specs.Consecutive.{numbers}
 use Rattle.fdt_tree.specs.Tree.{Tree}
 use Rattle.tree_parts.specs.Nodes.{node, leaf, wide_cells, text, two_and_two}
 use Rattle.tree_generator.specs.Guests.{guest}

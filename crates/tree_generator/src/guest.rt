@@ -6,9 +6,9 @@ ghost use Rattle.tree_parts.specs.Nodes.{trees_of, on};
 ghost use Rattle.tree_parts.specs.Grown.{Grows};
 ghost use Rattle.tree_generator.specs.Guests.{is_even, peer, is_linked, properties_by, guest_name, kernel, region, port, guest};
 
-use dl_base::Bytes;
 use fdt_tree::{NodeId, Tree};
 use std::alloc::{AllocError, Global};
+use texts::Bytes;
 use tree_parts::{Row, add_leaf, add_open};
 
 /// The guest has an even number.

@@ -7,9 +7,9 @@ ghost use Rattle.fdt_tree.specs.Document.{have_names};
 ghost use Rattle.tree_parts.specs.Rows.{property, properties};
 
 use byteorder::{BigEndian, ByteOrder};
-use dl_base::Bytes;
 use fdt_tree::{NodeId, Tree};
 use std::alloc::{AllocError, Global};
+use texts::Bytes;
 
 /// A property by the form of its value: each has its name, and then what the value is made of (Devicetree Specification
 /// 0.4, 2.2.4).

@@ -1,8 +1,8 @@
 -- What the answer of a plan says of a description.
 use Rattle.std.proofs.Common.{◌≡◌, List, All, Result, Ok, Err, IfOk, IfErr, refl}
-use Rattle.dl_base.specs.Maps.{AreMapRanges, AreMerged}
-use Rattle.dl_base.specs.declared.item.Item.{Item}
-use Rattle.dl_base.specs.declared.why.Why.{Why}
+use Rattle.described.specs.Maps.{AreMapRanges, AreMerged}
+use Rattle.described.specs.declared.item.Item.{Item}
+use Rattle.described.specs.declared.why.Why.{Why}
 use Rattle.domain_bindings.specs.declared.host.Host.{Host}
 use Rattle.domain_plan.specs.declared.described.Guest.{Guest}
 use Rattle.domain_plan.specs.declared.planned.GuestPlan.{GuestPlan}

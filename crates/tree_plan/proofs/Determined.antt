@@ -2,13 +2,13 @@
 use Rattle.std.proofs.Common.{◌≡◌, ◌∙◌, ap, ap₂, sym, subst, refl, ℕ, suc, ◌+◌, Bool, List, [], ◌∷◌, map, All, Option, Some, None, Result, Ok, Err, arith}
 use Rattle.std.specs.Prelude.{slice_get}
 use Rattle.std.proofs.lemmas.List.Elements.{All-nil, All-cons}
-use Rattle.dl_base.specs.Maps.{AreMapRanges, AreMerged}
-use Rattle.dl_base.specs.declared.item.Described.{Described}
-use Rattle.dl_base.specs.declared.item.Item.{Item}
-use Rattle.dl_base.specs.declared.layout.Layout.{Layout}
-use Rattle.dl_base.specs.declared.ranges.FrameRange.{FrameRange}
-use Rattle.dl_base.specs.declared.ranges.MapRange.{MapRange}
-use Rattle.dl_base.specs.declared.why.Why.{Why}
+use Rattle.described.specs.Maps.{AreMapRanges, AreMerged}
+use Rattle.described.specs.declared.item.Described.{Described}
+use Rattle.described.specs.declared.item.Item.{Item}
+use Rattle.described.specs.declared.layout.Layout.{Layout}
+use Rattle.texts.specs.declared.ranges.FrameRange.{FrameRange}
+use Rattle.described.specs.declared.map_range.MapRange.{MapRange}
+use Rattle.described.specs.declared.why.Why.{Why}
 use Rattle.frame_alloc.specs.Frames.{AreFrameRanges}
 use Rattle.domain_bindings.specs.declared.host.Host.{Host}
 use Rattle.domain_bindings.specs.HostDevices.{HasUsableDevices, areas_of, console_of}
@@ -17,7 +17,7 @@ use Rattle.domain_bindings.specs.Ram.{IsRam}
 use Rattle.domain_bindings.proofs.HostDeviceLemmas.{areas-usable, console-usable}
 use Rattle.domain_bindings.proofs.RamLemmas.{AreFrameRanges-merged}
 use Rattle.domain_plan.specs.declared.described.Guest.{Guest}
-use Rattle.dl_base.specs.declared.loaded.Loaded.{Loaded}
+use Rattle.described.specs.declared.loaded.Loaded.{Loaded}
 use Rattle.domain_plan.specs.declared.planned.GuestPlan.{GuestPlan}
 use Rattle.domain_plan.specs.Arguments.{AreRead}
 use Rattle.domain_plan.specs.Entries.{of_guest, is_read, items_of}

@@ -2,9 +2,9 @@
 use Rattle.std.proofs.Common.{◌≡◌, ◌∙◌, ap, ap₂, sym, subst, refl, ℕ, ◌+◌, ◌-◌, ◌<◌, ◌≤◌, ◌⊎◌, inl, inr, true, false, List, [], ◌∷◌, Option, Some, None, arith}
 use Rattle.std.proofs.lemmas.Bool.{cases_order}
 use Rattle.std.proofs.lemmas.Option.{same_Some, none-some}
-use Rattle.dl_base.specs.Maps.{Target, target_of, holds_page, AreSortedFrom, AreMerged, AreMergedAfter}
-use Rattle.dl_base.specs.declared.ranges.MapRange.{MapRange}
-use Rattle.dl_base.proofs.RunLemmas.{holds_tells}
+use Rattle.described.specs.Maps.{Target, target_of, holds_page, AreSortedFrom, AreMerged, AreMergedAfter}
+use Rattle.described.specs.declared.map_range.MapRange.{MapRange}
+use Rattle.described.proofs.RunLemmas.{holds_tells}
 
 abbrev HoldsOrNot : MapRange → ℕ → Type 0
 HoldsOrNot range page =

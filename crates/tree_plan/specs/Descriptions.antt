@@ -1,7 +1,7 @@
 -- What is described: a host's device tree, what is reserved beside it, the files that were loaded, and the partial device
 -- trees of the guests; and the host and the guests that it describes (Xen, docs/misc/arm/device-tree/booting.txt).
 use Rattle.std.specs.Prelude.{ℕ, ◌+◌, ◌==◌, if◌then◌else◌, List, [], ◌∷◌, Option, None, Some, slice_get, option_and_then, option_map, map}
-use Rattle.dl_base.specs.declared.ranges.FrameRange.{FrameRange}
+use Rattle.texts.specs.declared.ranges.FrameRange.{FrameRange}
 use Rattle.fdt_tree.specs.Tree.{Tree}
 use Rattle.fdt_tree.specs.Document.{Document}
 use Rattle.fdt_tree.specs.declared.reserve.Reserve.{Reserve}
@@ -18,7 +18,7 @@ use Rattle.passthrough_dtb.specs.Items.{partial_items}
 use Rattle.static_links.specs.Ports.{port_items}
 use Rattle.static_links.specs.Shared.{shared_items}
 use Rattle.domain_plan.specs.declared.described.Guest.{Guest}
-use Rattle.dl_base.specs.declared.loaded.Loaded.{Loaded}
+use Rattle.described.specs.declared.loaded.Loaded.{Loaded}
 use Rattle.domain_plan.specs.declared.described.PartialState.{PartialState}
 use Rattle.domain_plan.specs.declared.described.PartialState.TheVariants as states
 

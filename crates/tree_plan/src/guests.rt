@@ -4,13 +4,13 @@ ghost use Rattle.domain_bindings.specs.Domains.{guest_nodes};
 ghost use Rattle.tree_plan.specs.Descriptions.{guests_from, partial_at, partial_state, trees_in};
 ghost use Rattle.tree_plan.specs.PrivateHeldGuests.{held_guest, unheld};
 
-use dl_base::List;
 use domain_bindings::{Domain, read_domains};
 use domain_plan::{Guest, PartialState};
 use fdt_tree::Tree;
 use passthrough_dtb::read_partial;
 use static_links::{read_ports, read_shared};
 use std::alloc::{AllocError, Global};
+use texts::List;
 
 /// The most guests that are built.
 const GUEST_LIMIT: u64 = 16;

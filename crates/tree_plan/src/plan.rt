@@ -1,16 +1,17 @@
 //! The plan of a host's tree.
 ghost use Rattle.std.specs.Prelude.{◌≡◌, All, IfErr, IfOk, Ok};
-ghost use Rattle.dl_base.specs.Maps.{AreMapRanges, AreMerged};
+ghost use Rattle.described.specs.Maps.{AreMapRanges, AreMerged};
 ghost use Rattle.guest_images.specs.Walks.{ArePlannedApart};
 ghost use Rattle.tree_plan.specs.Descriptions.{description_of};
 ghost use Rattle.tree_plan.specs.TreePlans.{IsFaultOf, is_common, plan_of};
 
 use crate::guests::read_guests;
-use dl_base::{List, Loaded};
+use described::Loaded;
 use domain_bindings::read_host;
 use domain_plan::{Plan, PlanFault, plan};
 use fdt_tree::{Reserve, Tree};
 use std::alloc::Global;
+use texts::List;
 
 /// What every guest that a host's tree describes is given, and the frames that are left for tables; or the first item
 /// that is refused, with the first reason against it. `reserves` are the tree's reservations, `loads` the files that were

@@ -1,7 +1,7 @@
 use Rattle.std.proofs.Common.{◌≡◌, ◌<◌, ◌≤◌, ◌+◌, ◌*◌, ◌^◌, ◌∙◌, ◌∷◌, sym, ap, ap₂, subst, arith, length, ℕ, List, All}
 use Rattle.std.specs.Option.{option_copied}
 use Rattle.build_report.specs.Report.{report}
-use Rattle.dl_base.specs.Outside.{File}
+use Rattle.outside.specs.Outside.{File}
 use Rattle.guest_fdt.specs.Bounds.{IsBounded}
 use Rattle.guest_fdt.specs.GuestTree.{guest_tree}
 use Rattle.guest_images.specs.Built.{files_in as images_in}

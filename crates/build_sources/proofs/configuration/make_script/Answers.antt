@@ -1,6 +1,6 @@
 use Rattle.std.proofs.Common.{rules, ◌≡◌, ◌∙◌, ap, subst, List, Err, length}
 use Rattle.std.specs.Prelude.{Option}
-use Rattle.dl_base.specs.Outside.{File}
+use Rattle.outside.specs.Outside.{File}
 use Rattle.std.specs.Option.{option_copied}
 use Rattle.run_steps.specs.Steps.{nothing}
 use Rattle.run_steps.specs.Trees.{flat_tree, AfterTreeFile}

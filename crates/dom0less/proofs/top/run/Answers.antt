@@ -1,10 +1,10 @@
 use Rattle.std.proofs.Common.{◌≡◌, ◌∙◌, sym, ap, subst, map, string_bytes}
 use Rattle.std.specs.Prelude.{Option}
-use Rattle.dl_base.specs.declared.status.Status.TheVariants as statuses
+use Rattle.outside.specs.declared.status.Status.TheVariants as statuses
 use Rattle.run_steps.specs.Endings.{Builds, and_files}
 use Rattle.run_steps.specs.Outputs.{files_of, report_of}
 use Rattle.run_steps.proofs.Taken.{and_files-none, built_or_not}
-use Rattle.dl_base.specs.Outside.{and_bytes}
+use Rattle.outside.specs.Outside.{and_bytes}
 use Rattle.dom0less_words.specs.Meant.{meant}
 use Rattle.dom0less_words.specs.Words.{Asked, Check}
 use Rattle.dom0less.specs.Job.{IsSettingsJob}

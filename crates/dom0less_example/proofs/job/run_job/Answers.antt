@@ -1,8 +1,8 @@
 use Rattle.std.proofs.Common.{◌≡◌, ℕ, List, subst}
 use Rattle.std.specs.Prelude.{Option}
-use Rattle.dl_base.specs.Outside.{File}
-use Rattle.dl_base.specs.declared.status.Status.{Status}
-use Rattle.dl_base.specs.declared.status.Status.TheVariants.{Refused}
+use Rattle.outside.specs.Outside.{File}
+use Rattle.outside.specs.declared.status.Status.{Status}
+use Rattle.outside.specs.declared.status.Status.TheVariants.{Refused}
 use Rattle.run_steps.specs.Endings.{Refuses}
 use Rattle.dom0less.specs.Job.{CallsFor}
 use Rattle.dom0less_example.proofs.job.run_job.Goals as goal

@@ -1,6 +1,6 @@
 use Rattle.std.proofs.Common.{◌∙◌, ap}
 use Rattle.std.proofs.lemmas.List.{take_all}
-use Rattle.dl_base.specs.Sound.{AreSound}
+use Rattle.described.specs.Sound.{AreSound}
 use Rattle.domain_bindings.specs.Results.{domains_at}
 use Rattle.domain_bindings.specs.Assured.{HasHead, HasListedRanges, HasStaticLimit}
 use Rattle.domain_bindings.proofs.ItemLemmas.{one_domain, all_domains}

@@ -1,6 +1,6 @@
 use Rattle.std.proofs.Common.{sym, subst, rules, Option}
 use Rattle.std.specs.Prelude.{IfSome}
-use Rattle.dl_base.specs.Sound.{AreSound}
+use Rattle.described.specs.Sound.{AreSound}
 use Rattle.domain_bindings.proofs.Assured.{host-sound, dom0-sound}
 use Rattle.domain_bindings.proofs.HostDeviceLemmas.{AreUsable, IsUsablePage, areas-usable, console-usable}
 use Rattle.domain_bindings.proofs.RamLemmas.{AreFrameRanges-merged}

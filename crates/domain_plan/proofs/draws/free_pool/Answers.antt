@@ -1,6 +1,6 @@
 use Rattle.std.proofs.Common.{◌≡◌, ◌^◌, ◌+◌, ◌≤◌, ◌∙◌, All, List, not, filter, sym, ap, subst}
 use Rattle.std.proofs.lemmas.List.Elements.{All-map}
-use Rattle.dl_base.specs.declared.ranges.FrameRange.{FrameRange}
+use Rattle.texts.specs.declared.ranges.FrameRange.{FrameRange}
 use Rattle.frame_alloc.specs.Frames.{frames_in}
 use Rattle.frame_ranges.specs.Ranges.{holds}
 use Rattle.domain_plan.specs.declared.state.Taken.{Taken}

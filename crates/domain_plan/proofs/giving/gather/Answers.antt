@@ -1,10 +1,10 @@
 use Rattle.std.proofs.Common.{◌≡◌, Bool, List, [], ◌++◌, map, Some, All, refl, sym, ap, subst, ◌∙◌}
-use Rattle.dl_base.specs.declared.item.Described.{Described}
-use Rattle.dl_base.specs.declared.ranges.MapRange.{MapRange}
+use Rattle.described.specs.declared.item.Described.{Described}
+use Rattle.described.specs.declared.map_range.MapRange.{MapRange}
 use Rattle.domain_plan.specs.declared.described.Guest.{Guest}
 use Rattle.domain_plan.specs.declared.giving.Given.{Given}
 use Rattle.domain_plan.specs.declared.state.Owner.{Owner}
-use Rattle.dl_base.specs.Sound.{IsSound}
+use Rattle.described.specs.Sound.{IsSound}
 use Rattle.domain_plan.specs.Entries.{of_guest, items_of, partial_items, is_read}
 use Rattle.domain_plan.specs.GuestMaps.{laid}
 use Rattle.domain_plan.specs.Taken.{Passed, all_passed}

@@ -1,6 +1,6 @@
 use Rattle.std.proofs.Common.{◌≡◌, ◌+◌, ◌<◌, ◌≤◌, List, [], ◌∷◌, ◌++◌, length, map, sym, ap, subst, ◌∙◌}
 use Rattle.std.proofs.lemmas.List.{length-map, take_all}
-use Rattle.dl_base.specs.declared.item.Described.{Described}
+use Rattle.described.specs.declared.item.Described.{Described}
 use Rattle.domain_plan.specs.Taken.{Passed, passing, all_passed}
 use Rattle.domain_plan.specs.Regions.{placed_item}
 use Rattle.domain_plan.specs.PrivateStanding.{entry_of}

@@ -1,6 +1,6 @@
 use Rattle.std.proofs.Common.{◌≡◌, List, [], ◌∷◌, ◌++◌, sym, subst, ◌∙◌}
-use Rattle.dl_base.specs.declared.item.Described.{Described}
-use Rattle.dl_base.specs.Sound.{IsSound}
+use Rattle.described.specs.declared.item.Described.{Described}
+use Rattle.described.specs.Sound.{IsSound}
 use Rattle.domain_plan.specs.Taken.{passing}
 use Rattle.domain_plan.specs.Regions.{placed_item}
 use Rattle.domain_plan.specs.PrivateStanding.{entry_of}

@@ -2,11 +2,11 @@ use Rattle.std.proofs.Common.{◌≡◌, ℕ, ◌+◌, Bool, cond, List, [], ◌
 use Rattle.std.specs.Prelude.{◌==◌, ◌&&◌, All}
 use Rattle.std.specs.List.{list_any}
 use Rattle.std.proofs.lemmas.List.Elements.{All-nil, All-cons, All-head, All-tail}
-use Rattle.dl_base.specs.Consecutive.{numbers}
-use Rattle.dl_base.specs.Maps.{AreMapRanges}
-use Rattle.dl_base.specs.Sound.{IsSound}
-use Rattle.dl_base.specs.declared.item.Described.{Described}
-use Rattle.dl_base.specs.declared.ranges.MapRange.{MapRange}
+use Rattle.texts.specs.Consecutive.{numbers}
+use Rattle.described.specs.Maps.{AreMapRanges}
+use Rattle.described.specs.Sound.{IsSound}
+use Rattle.described.specs.declared.item.Described.{Described}
+use Rattle.described.specs.declared.map_range.MapRange.{MapRange}
 use Rattle.domain_plan.specs.Entries.{of_guest, is_read, items_of}
 use Rattle.domain_plan.specs.Regions.{placed_item}
 use Rattle.domain_plan.specs.Taken.{Passed, what_of, belongs_to, is_direct, all_passed}

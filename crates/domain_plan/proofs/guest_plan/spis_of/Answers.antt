@@ -1,7 +1,7 @@
 use Rattle.std.proofs.Common.{ℕ, ◌+◌, ◌-◌, Bool, List, ◌++◌, sym, ap, ◌∙◌}
 use Rattle.std.specs.Prelude.{◌==◌, filter}
 use Rattle.std.specs.List.{list_any}
-use Rattle.dl_base.specs.Consecutive.{numbers}
+use Rattle.texts.specs.Consecutive.{numbers}
 use Rattle.domain_plan.proofs.SpiLemmas.{spis_step, spis_end}
 use Rattle.domain_plan.proofs.guest_plan.spis_of.Goals as goal
 

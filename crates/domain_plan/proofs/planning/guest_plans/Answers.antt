@@ -1,6 +1,6 @@
 use Rattle.std.proofs.Common.{◌≡◌, ◌<◌, ◌≤◌, List, [], map, Vec, Global, Some, length, sym, ap, subst, ◌∙◌, arith}
 use Rattle.std.specs.Prelude.{slice_get}
-use Rattle.dl_base.specs.declared.ranges.FrameRange.{FrameRange}
+use Rattle.texts.specs.declared.ranges.FrameRange.{FrameRange}
 use Rattle.domain_plan.specs.declared.described.Guest.{Guest}
 use Rattle.domain_plan.specs.Entries.{of_guest, is_read, items_of}
 use Rattle.domain_plan.specs.Taken.{all_passed}

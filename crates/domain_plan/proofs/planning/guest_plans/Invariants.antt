@@ -1,5 +1,5 @@
 use Rattle.std.proofs.Common.{map, take, Vec, Global}
-use Rattle.dl_base.specs.declared.ranges.FrameRange.{FrameRange}
+use Rattle.texts.specs.declared.ranges.FrameRange.{FrameRange}
 use Rattle.domain_plan.specs.Plans.{placed_of, AreGuestPlans}
 use Rattle.domain_plan.proofs.planning.guest_plans.Given as goal
 

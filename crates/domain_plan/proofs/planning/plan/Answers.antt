@@ -1,7 +1,7 @@
 use Rattle.std.proofs.Common.{◌≡◌, ℕ, List, [], map, Vec, Global, Option, Some, None, Result, Ok, Err, rules, refl, sym, ap, ◌∙◌, arith}
-use Rattle.dl_base.specs.declared.ranges.FrameRange.{FrameRange}
+use Rattle.texts.specs.declared.ranges.FrameRange.{FrameRange}
 use Rattle.domain_bindings.specs.declared.host.Host.{Host}
-use Rattle.dl_base.specs.declared.loaded.Loaded.{Loaded}
+use Rattle.described.specs.declared.loaded.Loaded.{Loaded}
 use Rattle.domain_plan.specs.declared.described.Guest.{Guest}
 use Rattle.domain_plan.specs.Entries.{joined}
 use Rattle.domain_plan.specs.Refusals.{Refusal, first_refused}

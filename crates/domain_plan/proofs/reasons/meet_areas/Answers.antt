@@ -1,6 +1,6 @@
 use Rattle.std.proofs.Common.{◌≡◌, false, ◌||◌, Bool, List, ◌∷◌, [], refl, sym, ap, ◌∙◌}
-use Rattle.dl_base.specs.declared.layout.Layout.{Layout}
-use Rattle.dl_base.specs.declared.ranges.FrameRange.{FrameRange}
+use Rattle.described.specs.declared.layout.Layout.{Layout}
+use Rattle.texts.specs.declared.ranges.FrameRange.{FrameRange}
 use Rattle.frame_ranges.specs.Ranges.{touched, have_common}
 use Rattle.domain_plan.specs.Reasons.{area_pages}
 use Rattle.frame_ranges.proofs.CommonFrames.{common-cons_left, or_left, or_right}

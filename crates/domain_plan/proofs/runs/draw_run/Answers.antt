@@ -1,7 +1,7 @@
 use Rattle.std.proofs.Common.{◌≡◌, ℕ, ◌+◌, ◌*◌, ◌/◌, ◌^◌, ◌≤◌, List, [], ◌∷◌, length, Some, None, Ok, Err, refl, sym, ap, ◌∙◌, arith}
-use Rattle.dl_base.specs.declared.item.Item.{Item}
-use Rattle.dl_base.specs.declared.why.Why.{Why}
-use Rattle.dl_base.specs.declared.why.Why.TheVariants.{NoRam}
+use Rattle.described.specs.declared.item.Item.{Item}
+use Rattle.described.specs.declared.why.Why.{Why}
+use Rattle.described.specs.declared.why.Why.TheVariants.{NoRam}
 use Rattle.frame_alloc.specs.Frames.{lowest_run}
 use Rattle.frame_alloc.proofs.AscendingFrames.{lowest_run-bound}
 use Rattle.domain_plan.specs.declared.planned.PlanFault.{PlanFault}

@@ -1,6 +1,6 @@
 use Rattle.std.proofs.Common.{◌+◌, List, get_or, drop, sym, subst}
 use Rattle.std.proofs.lemmas.List.{drop_more}
-use Rattle.dl_base.specs.declared.ranges.FrameRange.{FrameRange}
+use Rattle.texts.specs.declared.ranges.FrameRange.{FrameRange}
 use Rattle.domain_plan.specs.PrivateTakings.{AreClear}
 use Rattle.domain_plan.proofs.TakingsLemmas.{clear_more}
 use Rattle.domain_plan.proofs.takings.may_meet_any.Goals as goal

@@ -1,6 +1,6 @@
 use Rattle.std.proofs.Common.{◌≡◌, ◌<◌, ◌++◌, ◌⊎◌, inl, inr, length, Some, sym, ap, ◌∙◌, arith, append-nil}
-use Rattle.dl_base.specs.Consecutive.{numbers}
-use Rattle.dl_base.proofs.NumberLists.{numbers-zero}
+use Rattle.texts.specs.Consecutive.{numbers}
+use Rattle.texts.proofs.NumberLists.{numbers-zero}
 use Rattle.frame_alloc.specs.Extents.{frames_of}
 use Rattle.frame_alloc.specs.PrivateExtents.{end_from}
 use Rattle.frame_alloc.specs.Slots.{extents_in}

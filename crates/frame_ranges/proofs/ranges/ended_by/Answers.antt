@@ -1,5 +1,5 @@
 use Rattle.std.proofs.Common.{ℕ, ◌+◌, ◌-◌, ◌/◌, ◌<◌, ◌≤◌, length, arith}
-use Rattle.dl_base.specs.declared.ranges.FrameRange.{FrameRange}
+use Rattle.texts.specs.declared.ranges.FrameRange.{FrameRange}
 use Rattle.frame_ranges.proofs.LaterLemmas.{end_at, end_low, ends_rise}
 use Rattle.frame_ranges.proofs.ranges.ended_by.Goals as goal
 

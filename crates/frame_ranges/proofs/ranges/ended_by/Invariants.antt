@@ -1,5 +1,5 @@
 use Rattle.std.proofs.Common.{ℕ, ◌+◌, ◌-◌, ◌<◌, ◌≤◌, length, slice_index_or}
-use Rattle.dl_base.specs.declared.ranges.FrameRange.{FrameRange}
+use Rattle.texts.specs.declared.ranges.FrameRange.{FrameRange}
 use Rattle.frame_ranges.proofs.ranges.ended_by.Given as goal
 
 -- those below `low` end at or below the frame

@@ -1,6 +1,6 @@
 use Rattle.std.proofs.Common.{◌≡◌, ℕ, ◌+◌, max, get_or, drop, List, ◌∷◌, sym, subst, ap, ◌∙◌, arith}
 use Rattle.std.proofs.lemmas.List.{drop_more, drop_all}
-use Rattle.dl_base.specs.declared.ranges.FrameRange.{FrameRange}
+use Rattle.texts.specs.declared.ranges.FrameRange.{FrameRange}
 use Rattle.frame_alloc.specs.Frames.{AreFrameRangesFrom}
 use Rattle.frame_ranges.proofs.CoverLemmas.{covers, covers_done, covers_short, covers_next, covers_end, lie_in-covers}
 use Rattle.frame_ranges.proofs.ranges.is_covered.Goals as goal

@@ -1,6 +1,6 @@
 use Rattle.std.proofs.Common.{◌∙◌, ◌≤◌, List, ◌∷◌, [], length, sym, ap, subst, arith}
 use Rattle.std.proofs.lemmas.Slice.{between_to_end}
-use Rattle.dl_base.specs.declared.ranges.FrameRange.{FrameRange}
+use Rattle.texts.specs.declared.ranges.FrameRange.{FrameRange}
 use Rattle.frame_alloc.specs.Frames.{AreFrameRanges}
 use Rattle.frame_ranges.specs.Ranges.{lie_in}
 use Rattle.frame_ranges.proofs.LaterLemmas.{later_sorted, lie_in-later}

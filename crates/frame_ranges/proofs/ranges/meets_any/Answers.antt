@@ -1,6 +1,6 @@
 use Rattle.std.proofs.Common.{◌≡◌, ◌+◌, true, false, ◌||◌, get_or, drop, List, ◌∷◌, [], refl, sym, ap, ◌∙◌}
 use Rattle.std.proofs.lemmas.List.{drop_more, drop_all}
-use Rattle.dl_base.specs.declared.ranges.FrameRange.{FrameRange}
+use Rattle.texts.specs.declared.ranges.FrameRange.{FrameRange}
 use Rattle.frame_ranges.specs.Ranges.{have_common}
 use Rattle.frame_ranges.proofs.CommonFrames.{common_none, common-cons_right, or_left}
 use Rattle.frame_ranges.proofs.ranges.meets_any.Goals as goal

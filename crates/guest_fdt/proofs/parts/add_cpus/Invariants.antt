@@ -1,5 +1,5 @@
 use Rattle.std.proofs.Common.{map}
-use Rattle.dl_base.specs.Consecutive.{numbers}
+use Rattle.texts.specs.Consecutive.{numbers}
 use Rattle.tree_parts.specs.Grown.{Grows}
 use Rattle.guest_fdt.specs.Machine.{cpu}
 use Rattle.tree_parts.specs.Nodes.{trees_of}

@@ -1,7 +1,7 @@
 use Rattle.std.proofs.Common.{rules, ◌≡◌, subst, List, Err}
 use Rattle.std.specs.Prelude.{Option}
 use Rattle.std.specs.Option.{option_copied}
-use Rattle.dl_base.specs.Outside.{File}
+use Rattle.outside.specs.Outside.{File}
 use Rattle.run_steps.specs.Steps.{nothing}
 use Rattle.run_steps.specs.Trees.{flat_tree}
 use Rattle.run_steps.proofs.Due.{due_here, due_later, grew_twice}

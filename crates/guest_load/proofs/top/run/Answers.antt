@@ -1,7 +1,7 @@
 use Rattle.std.proofs.Common.{◌∙◌, ap, subst, map, string_bytes, inl, inr}
 use Rattle.std.specs.Prelude.{Option}
 use Rattle.run_steps.specs.Endings.{Refuses, Builds, and_files}
-use Rattle.dl_base.specs.Outside.{and_bytes}
+use Rattle.outside.specs.Outside.{and_bytes}
 use Rattle.guest_load.specs.Job.{IsAskedJob, IsWordsJob}
 use Rattle.guest_load.specs.PrivateMeant.{meant}
 use Rattle.run_steps.specs.Outputs.{files_of, report_of}

@@ -1,5 +1,5 @@
 use Rattle.std.proofs.Common.{◌≡◌, map}
-use Rattle.dl_base.specs.Consecutive.{numbers}
+use Rattle.texts.specs.Consecutive.{numbers}
 use Rattle.ib_config.specs.PrivateScan.{held}
 use Rattle.ib_config.specs.Settings.{ports_at}
 use Rattle.ib_config.proofs.guests.all_ports.Given as goal

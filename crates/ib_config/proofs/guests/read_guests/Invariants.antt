@@ -1,5 +1,5 @@
 use Rattle.std.proofs.Common.{◌≡◌, ◌-◌, ◌++◌, Ok}
-use Rattle.dl_base.specs.Consecutive.{numbers}
+use Rattle.texts.specs.Consecutive.{numbers}
 use Rattle.ib_config.specs.PrivateScan.{held}
 use Rattle.ib_config.specs.Settings.{◌>>=◌, each, guest_settings}
 use Rattle.ib_config.proofs.guests.read_guests.Given as goal

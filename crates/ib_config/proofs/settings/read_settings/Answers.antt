@@ -1,5 +1,5 @@
 use Rattle.std.proofs.Common.{rules, ◌≡◌, Err, None, refl}
-use Rattle.dl_base.specs.Consecutive.{numbers}
+use Rattle.texts.specs.Consecutive.{numbers}
 use Rattle.ib_config.specs.PrivateScan.{held}
 use Rattle.ib_config.specs.Settings.{settings_of, guest_settings, each}
 use Rattle.ib_config.specs.Variables as table

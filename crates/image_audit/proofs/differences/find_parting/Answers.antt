@@ -1,4 +1,4 @@
-use Rattle.dl_base.specs.declared.ranges.Kind.TheVariants.{Ram}
+use Rattle.described.specs.declared.map_range.Kind.TheVariants.{Ram}
 use Rattle.image_audit.proofs.PlannedRanges.{ends_at}
 use Rattle.image_audit.proofs.differences.find_parting.Goals as goal
 

@@ -1,5 +1,5 @@
 use Rattle.std.proofs.Common.{arith}
-use Rattle.dl_base.specs.declared.ranges.Kind.TheVariants.{Ram}
+use Rattle.described.specs.declared.map_range.Kind.TheVariants.{Ram}
 use Rattle.image_audit.proofs.PlannedRanges.{ends_at}
 use Rattle.image_audit.proofs.differences.planned_goal.Goals as goal
 

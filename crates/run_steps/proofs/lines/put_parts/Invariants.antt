@@ -1,6 +1,6 @@
 use Rattle.std.proofs.Common.{◌≡◌, ◌≤◌, take}
 use Rattle.std.specs.List.{flat_map}
-use Rattle.dl_base.specs.Outside.{and_bytes}
+use Rattle.outside.specs.Outside.{and_bytes}
 use Rattle.run_steps.proofs.lines.put_parts.Given as goal
 
 -- the parts so far were taken

@@ -1,6 +1,6 @@
 use Rattle.std.proofs.Common.{ap, inl, inr, refl}
 use Rattle.std.specs.Prelude.{Err}
-use Rattle.dl_base.specs.declared.files.FileError.TheVariants as read_errors
+use Rattle.outside.specs.declared.files.FileError.TheVariants as read_errors
 use Rattle.run_steps.proofs.Readings.{is_absent, is_longer}
 use Rattle.run_steps.proofs.reading.read_file.Goals as goal
 

@@ -1,6 +1,6 @@
 use Rattle.std.proofs.Common.{◌≡◌, ℕ, ◌+◌, ◌-◌, ◌≤◌, ◌++◌, ◌∷◌, List, false, length, take, sym, ap, subst, ◌∙◌, arith}
 use Rattle.std.specs.Prelude.{All}
-use Rattle.dl_base.specs.Consecutive.{is_in}
+use Rattle.texts.specs.Consecutive.{is_in}
 use Rattle.frame_alloc.specs.Frames.{AreFrames, without}
 use Rattle.frame_alloc.proofs.FreeFrames.{lowest_pair-tells}
 use Rattle.stage2_walk.specs.Pages.{frames_of}

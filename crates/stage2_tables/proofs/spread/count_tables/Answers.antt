@@ -1,7 +1,7 @@
 use Rattle.std.proofs.Common.{sym, subst, arith}
-use Rattle.dl_base.specs.Maps.{target_of}
-use Rattle.dl_base.specs.declared.ranges.Kind.TheVariants.{Ram}
-use Rattle.dl_base.specs.declared.ranges.MapRange.{MapRange}
+use Rattle.described.specs.Maps.{target_of}
+use Rattle.described.specs.declared.map_range.Kind.TheVariants.{Ram}
+use Rattle.described.specs.declared.map_range.MapRange.{MapRange}
 use Rattle.stage2_tables.specs.Sweeps.{IsCounted}
 use Rattle.stage2_tables.specs.declared.sweep.Sweep.{Sweep}
 use Rattle.stage2_tables.proofs.SweepStates.{begins_counted}

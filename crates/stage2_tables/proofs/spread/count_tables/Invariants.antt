@@ -1,5 +1,5 @@
 use Rattle.std.proofs.Common.{ℕ}
-use Rattle.dl_base.specs.Maps.{target_of}
+use Rattle.described.specs.Maps.{target_of}
 use Rattle.stage2_tables.specs.Sweeps.{IsCounted}
 use Rattle.stage2_tables.proofs.SpreadSteps.{IsBetween}
 use Rattle.stage2_tables.proofs.spread.count_tables.Given as goal

@@ -1,7 +1,7 @@
 use Rattle.std.proofs.Common.{refl, ◌∙◌, arith}
-use Rattle.dl_base.specs.Maps.{target_of}
-use Rattle.dl_base.specs.declared.ranges.Kind.TheVariants.{Ram}
-use Rattle.dl_base.specs.declared.ranges.MapRange.{MapRange}
+use Rattle.described.specs.Maps.{target_of}
+use Rattle.described.specs.declared.map_range.Kind.TheVariants.{Ram}
+use Rattle.described.specs.declared.map_range.MapRange.{MapRange}
 use Rattle.stage2_walk.specs.Pages.{frames_of}
 use Rattle.stage2_tables.proofs.SpreadSteps.{range_at, between_first, between_more, skip_swept}
 use Rattle.stage2_tables.proofs.SpreadEnds.{swept_first, swept_last}

@@ -1,8 +1,8 @@
 use Rattle.std.proofs.Common.{◌≡◌, ◌+◌, ◌%◌, ◌<◌, ℕ, List, get_or, refl, sym, subst, ◌∙◌, arith}
 use Rattle.std.proofs.lemmas.Option.{same_Some}
-use Rattle.dl_base.specs.Maps.{target_of}
-use Rattle.dl_base.specs.declared.ranges.Kind.TheVariants.{Ram}
-use Rattle.dl_base.specs.declared.ranges.MapRange.{MapRange}
+use Rattle.described.specs.Maps.{target_of}
+use Rattle.described.specs.declared.map_range.Kind.TheVariants.{Ram}
+use Rattle.described.specs.declared.map_range.MapRange.{MapRange}
 use Rattle.stage2_tables.specs.Sweeps.{IsSweptTo}
 use Rattle.stage2_tables.proofs.LeafChoice.{IsRange}
 use Rattle.stage2_tables.proofs.SpreadSteps.{range_at, bounds}

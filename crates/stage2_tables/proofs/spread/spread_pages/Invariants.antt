@@ -1,5 +1,5 @@
 use Rattle.std.proofs.Common.{◌≡◌, ◌+◌}
-use Rattle.dl_base.specs.Maps.{target_of}
+use Rattle.described.specs.Maps.{target_of}
 use Rattle.stage2_walk.specs.Pages.{frames_of}
 use Rattle.stage2_tables.specs.PrivateLeaves.{IsFresh}
 use Rattle.stage2_tables.specs.Sweeps.{IsSweptTo}

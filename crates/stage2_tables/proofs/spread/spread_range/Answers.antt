@@ -1,10 +1,10 @@
 use Rattle.std.proofs.Common.{◌≡◌, ◌+◌, ◌-◌, ◌<◌, ◌≤◌, ℕ, List, get_or, Some, refl, sym, subst, ◌∙◌, arith}
 use Rattle.std.specs.List.{slice_get}
 use Rattle.std.proofs.lemmas.Option.{same_Some}
-use Rattle.dl_base.specs.Maps.{target_of}
-use Rattle.dl_base.specs.Regions.{span}
-use Rattle.dl_base.specs.declared.ranges.Kind.TheVariants.{Ram}
-use Rattle.dl_base.specs.declared.ranges.MapRange.{MapRange}
+use Rattle.described.specs.Maps.{target_of}
+use Rattle.described.specs.Regions.{span}
+use Rattle.described.specs.declared.map_range.Kind.TheVariants.{Ram}
+use Rattle.described.specs.declared.map_range.MapRange.{MapRange}
 use Rattle.stage2_tables.specs.Leaves.{stretch}
 use Rattle.stage2_tables.specs.PrivateLeaves.{IsFresh}
 use Rattle.stage2_tables.specs.PrivateSteps.{IsInLinked}

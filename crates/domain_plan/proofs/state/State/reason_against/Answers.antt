@@ -1,6 +1,6 @@
 use Rattle.std.proofs.Common.{◌≡◌, Option, Some, None, sym, ◌∙◌}
 use Rattle.std.proofs.lemmas.Result.{IfOk-weaker}
-use Rattle.dl_base.specs.declared.why.Why.{Why}
+use Rattle.described.specs.declared.why.Why.{Why}
 use Rattle.domain_plan.specs.Taken.{Passed}
 use Rattle.domain_plan.specs.Reasons.{partial_unread}
 use Rattle.domain_plan.specs.PrivateStanding.{mine_of, naming_reasons, landing_reasons}

@@ -1,9 +1,9 @@
 use Rattle.std.proofs.Common.{◌≡◌, ◌&&◌, not, Bool, true, Option, Some, None, refl, sym, ◌∙◌}
 use Rattle.std.specs.Option.{option_or}
-use Rattle.dl_base.specs.Reasons.{where_so}
+use Rattle.described.specs.Reasons.{where_so}
 use Rattle.std.proofs.lemmas.Result.{IfOk-weaker}
-use Rattle.dl_base.specs.declared.why.Why.{Why}
-use Rattle.dl_base.specs.declared.why.Why.TheVariants as whys
+use Rattle.described.specs.declared.why.Why.{Why}
+use Rattle.described.specs.declared.why.Why.TheVariants as whys
 use Rattle.frame_ranges.specs.Ranges.{lie_in, have_common}
 use Rattle.domain_plan.specs.Taken.{what_of}
 use Rattle.domain_plan.specs.Reasons.{naming_first, area_pages, layout_at}

@@ -1,7 +1,7 @@
 use Rattle.std.proofs.Common.{◌==◌, ◌∙◌, ◌++◌, sym, ap, option_map}
 use Rattle.fdt_tree.specs.Tree.{descend}
 use Rattle.fdt_tree.specs.Document.{place_of, children_of}
-use Rattle.dl_base.proofs.Cuts.{uncut, cut_at}
+use Rattle.texts.proofs.Cuts.{uncut, cut_at}
 use Rattle.fdt_tree.proofs.Names.{onward}
 use Rattle.fdt_nodes.proofs.PathSteps.{stops}
 use Rattle.fdt_nodes.proofs.path_index.PathIndex.+find_below.Goals as goal

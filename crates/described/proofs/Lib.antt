@@ -1,0 +1,4 @@
+pub mod RegionLemmas
+pub mod RunLemmas
+pub mod Instances
+pub mod MapInstances

@@ -1,9 +1,0 @@
-pub mod KeptPlaces
-pub mod Cuts
-pub mod NumberLists
-pub mod Ascending
-pub mod RegionLemmas
-pub mod RunLemmas
-pub mod Instances
-pub mod MapInstances
-pub mod Digits

@@ -1,0 +1,5 @@
+pub mod Cuts
+pub mod NumberLists
+pub mod Ascending
+pub mod Instances
+pub mod Digits

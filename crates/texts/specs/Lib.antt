@@ -1,0 +1,4 @@
+pub mod Consecutive
+pub mod NumberTexts
+pub mod Rows
+pub mod Stores
