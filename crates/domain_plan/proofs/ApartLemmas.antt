@@ -14,7 +14,7 @@ use Rattle.described.specs.declared.item.What.TheVariants as whats
 use Rattle.frame_alloc.specs.Frames.{frames_in, AreFrames, AreFramesFrom, AreFrameRanges}
 use Rattle.frame_alloc.proofs.FreeFrames.{is_in_nil, is_in_cons, AreFramesFrom-weaker}
 use Rattle.frame_alloc.proofs.AscendingFrames.{AreFrames-frames_in}
-use Rattle.domain_plan.specs.declared.described.Guest.{Guest}
+use Rattle.domain_plan.specs.declared.guests.Guest.{Guest}
 use Rattle.domain_bindings.specs.declared.host.Host.{Host}
 use Rattle.described.specs.declared.loaded.Loaded.{Loaded}
 use Rattle.frame_ranges.specs.Ranges.{holds}

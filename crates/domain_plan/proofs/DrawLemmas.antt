@@ -7,7 +7,7 @@ use Rattle.texts.specs.Consecutive.{is_in}
 use Rattle.texts.specs.declared.ranges.FrameRange.{FrameRange}
 use Rattle.frame_alloc.specs.Frames.{AreFrames, is_within, without, lowest_frame, lowest_chunk}
 use Rattle.frame_alloc.proofs.FreeFrames.{is_in-without, lowest_frame-member, lowest_group-tells, AreFrames-without}
-use Rattle.domain_plan.specs.declared.described.Guest.{Guest}
+use Rattle.domain_plan.specs.declared.guests.Guest.{Guest}
 use Rattle.described.specs.declared.why.Why.TheVariants.{NoRam}
 use Rattle.frame_ranges.specs.Ranges.{holds}
 use Rattle.domain_plan.specs.Refusals.{Refusal}

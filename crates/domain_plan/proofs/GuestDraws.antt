@@ -7,7 +7,7 @@ use Rattle.std.proofs.lemmas.List.Folds.{list_any-append}
 use Rattle.texts.specs.declared.ranges.FrameRange.{FrameRange}
 use Rattle.described.specs.declared.why.Why.TheVariants.{NoRam}
 use Rattle.frame_alloc.specs.Frames.{frames_in, is_within}
-use Rattle.domain_plan.specs.declared.described.Guest.{Guest}
+use Rattle.domain_plan.specs.declared.guests.Guest.{Guest}
 use Rattle.domain_plan.specs.declared.state.Taken.{Taken}
 use Rattle.frame_ranges.specs.Ranges.{holds}
 use Rattle.domain_plan.specs.Taken.{Passed}

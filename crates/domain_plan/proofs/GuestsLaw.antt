@@ -9,7 +9,7 @@ use Rattle.texts.specs.declared.ranges.BaseSize.{BaseSize}
 use Rattle.described.specs.declared.map_range.Kind.TheVariants.{Ram, Device, Shared}
 use Rattle.described.specs.declared.item.What.{What}
 use Rattle.described.specs.declared.item.What.TheVariants as whats
-use Rattle.domain_plan.specs.declared.described.Guest.{Guest}
+use Rattle.domain_plan.specs.declared.guests.Guest.{Guest}
 use Rattle.domain_bindings.specs.declared.host.Host.{Host}
 use Rattle.described.specs.declared.loaded.Loaded.{Loaded}
 use Rattle.frame_ranges.specs.Ranges.{holds, touched}

@@ -8,7 +8,7 @@ use Rattle.described.specs.declared.item.Described.{Described}
 use Rattle.described.specs.declared.item.What.{What}
 use Rattle.described.specs.declared.why.Why.TheVariants.{NoRam}
 use Rattle.frame_alloc.specs.Frames.{lowest_frame, lowest_chunk, without}
-use Rattle.domain_plan.specs.declared.described.Guest.{Guest}
+use Rattle.domain_plan.specs.declared.guests.Guest.{Guest}
 use Rattle.domain_plan.specs.Entries.{Entry, of_host, of_guest, guest_entries, joined, load_item, items_of, is_read}
 use Rattle.domain_plan.specs.Taken.{Passed, passing, all_passed}
 use Rattle.domain_plan.specs.Refusals.{Refusal}

@@ -25,8 +25,8 @@ use Rattle.domain_plan.specs.Layouts.{layout_of}
 use Rattle.domain_plan.specs.Refusals.{Refusal, first_refused}
 use Rattle.domain_plan.specs.Draws.{Drawn, Heaps, drawn, groups_drawn, free_frames, heaps}
 use Rattle.fdt_tree.specs.declared.node_id.NodeId.{NodeId}
-use Rattle.domain_plan.specs.declared.described.Guest.{Guest}
-use Rattle.domain_plan.specs.declared.described.PartialState.TheVariants as states
+use Rattle.domain_plan.specs.declared.guests.Guest.{Guest}
+use Rattle.domain_plan.specs.declared.guests.PartialState.TheVariants as states
 use Rattle.domain_plan.specs.GuestMaps.{guest_ranges}
 
 -- 2 GiB of memory from address 0 on

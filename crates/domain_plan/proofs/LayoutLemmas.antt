@@ -10,7 +10,7 @@ use Rattle.texts.specs.declared.ranges.FrameRange.{FrameRange}
 use Rattle.described.specs.Layouts.{usual_layout}
 use Rattle.domain_bindings.specs.HostDevices.{is_usable, as_range, console_range, HasUsableDevices}
 use Rattle.domain_bindings.specs.declared.host.Host.{Host}
-use Rattle.domain_plan.specs.declared.described.Guest.{Guest}
+use Rattle.domain_plan.specs.declared.guests.Guest.{Guest}
 use Rattle.domain_plan.specs.declared.planned.GuestPlan.{GuestPlan}
 use Rattle.domain_plan.specs.declared.state.State.{State}
 use Rattle.domain_plan.specs.Layouts.{has_areas_apart, console_area, host_layout, layout_of, IsLayout}

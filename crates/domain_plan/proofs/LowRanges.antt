@@ -17,7 +17,7 @@ use Rattle.described.specs.declared.why.Why.{Why}
 use Rattle.frame_alloc.specs.Frames.{AreFrames, is_within}
 use Rattle.frame_alloc.proofs.FreeFrames.{AreFramesFrom-member}
 use Rattle.frame_alloc.proofs.Without.{is_within-in}
-use Rattle.domain_plan.specs.declared.described.Guest.{Guest}
+use Rattle.domain_plan.specs.declared.guests.Guest.{Guest}
 use Rattle.domain_bindings.specs.declared.host.Host.{Host}
 use Rattle.described.specs.declared.loaded.Loaded.{Loaded}
 use Rattle.frame_ranges.specs.Ranges.{holds, touched, cut, between}

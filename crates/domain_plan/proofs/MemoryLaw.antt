@@ -9,7 +9,7 @@ use Rattle.described.specs.declared.map_range.MapRange.{MapRange}
 use Rattle.described.specs.declared.item.Described.{Described}
 use Rattle.described.specs.declared.item.What.{What}
 use Rattle.domain_bindings.specs.declared.host.Host.{Host}
-use Rattle.domain_plan.specs.declared.described.Guest.{Guest}
+use Rattle.domain_plan.specs.declared.guests.Guest.{Guest}
 use Rattle.described.specs.declared.loaded.Loaded.{Loaded}
 use Rattle.frame_ranges.specs.Ranges.{holds}
 use Rattle.frame_ranges.proofs.CommonFrames.{true_or_false, not_both}

@@ -15,9 +15,9 @@ use Rattle.described.specs.declared.why.Why.{Why}
 use Rattle.described.specs.declared.why.Why.TheVariants.{TooHigh, NoRam}
 use Rattle.domain_bindings.specs.declared.domain.Domain.{Domain}
 use Rattle.domain_bindings.specs.declared.host.Host.{Host}
-use Rattle.domain_plan.specs.declared.described.Guest.{Guest}
-use Rattle.domain_plan.specs.declared.described.PartialState.{PartialState}
-use Rattle.domain_plan.specs.declared.described.PartialState.TheVariants as states
+use Rattle.domain_plan.specs.declared.guests.Guest.{Guest}
+use Rattle.domain_plan.specs.declared.guests.PartialState.{PartialState}
+use Rattle.domain_plan.specs.declared.guests.PartialState.TheVariants as states
 use Rattle.domain_plan.specs.Entries.{Entry, of_host, of_guest, load_item, partial_items, is_read, items_of, guest_entries, joined}
 use Rattle.domain_plan.specs.Taken.{static_pages}
 use Rattle.domain_plan.specs.Refusals.{Refusal}

@@ -14,7 +14,7 @@ use Rattle.frame_ranges.specs.Ranges.{holds}
 use Rattle.frame_ranges.proofs.CommonFrames.{true_or_false, not_both}
 use Rattle.domain_bindings.specs.declared.host.Host.{Host}
 use Rattle.described.specs.declared.loaded.Loaded.{Loaded}
-use Rattle.domain_plan.specs.declared.described.Guest.{Guest}
+use Rattle.domain_plan.specs.declared.guests.Guest.{Guest}
 use Rattle.domain_plan.specs.Entries.{Entry, joined, of_guest, is_read, items_of}
 use Rattle.domain_plan.specs.Taken.{Passed, what_of, says_direct, static_pages, all_passed}
 use Rattle.domain_plan.specs.Refusals.{first_refused}

@@ -7,7 +7,7 @@ use Rattle.texts.specs.declared.ranges.FrameRange.{FrameRange}
 use Rattle.described.specs.declared.map_range.MapRange.{MapRange}
 use Rattle.described.specs.declared.map_range.Kind.TheVariants.{Shared}
 use Rattle.frame_alloc.specs.Frames.{AreFrames}
-use Rattle.domain_plan.specs.declared.described.Guest.{Guest}
+use Rattle.domain_plan.specs.declared.guests.Guest.{Guest}
 use Rattle.domain_bindings.specs.declared.host.Host.{Host}
 use Rattle.described.specs.declared.loaded.Loaded.{Loaded}
 use Rattle.frame_ranges.specs.Ranges.{holds}

@@ -8,7 +8,7 @@ use Rattle.described.specs.Sound.{SoundUnless}
 use Rattle.frame_alloc.specs.Frames.{AreFrameRanges}
 use Rattle.domain_bindings.specs.HostDevices.{HasUsableDevices}
 use Rattle.domain_bindings.specs.declared.domain.Domain.{Domain}
-use Rattle.domain_plan.specs.declared.described.Guest.{Guest}
+use Rattle.domain_plan.specs.declared.guests.Guest.{Guest}
 use Rattle.domain_bindings.specs.declared.host.Host.{Host}
 use Rattle.described.specs.declared.loaded.Loaded.{Loaded}
 use Rattle.domain_plan.specs.Entries.{Entry, joined, items_of}

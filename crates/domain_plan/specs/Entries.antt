@@ -5,10 +5,10 @@ use Rattle.described.specs.declared.item.What.TheVariants as whats
 use Rattle.described.specs.declared.item.Part.TheVariants as parts
 use Rattle.described.specs.declared.why.Why.TheVariants.{TooHigh}
 use Rattle.domain_bindings.specs.declared.host.Host.{Host}
-use Rattle.domain_plan.specs.declared.described.Guest.{Guest}
+use Rattle.domain_plan.specs.declared.guests.Guest.{Guest}
 use Rattle.described.specs.declared.loaded.Loaded.{Loaded}
-use Rattle.domain_plan.specs.declared.described.PartialState.{PartialState}
-use Rattle.domain_plan.specs.declared.described.PartialState.TheVariants as states
+use Rattle.domain_plan.specs.declared.guests.PartialState.{PartialState}
+use Rattle.domain_plan.specs.declared.guests.PartialState.TheVariants as states
 
 -- an item, the number of the guest that it belongs to, and whether that guest's partial device tree was read
 pub record Entry : Type 0 where

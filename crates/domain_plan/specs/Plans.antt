@@ -6,11 +6,11 @@ use Rattle.described.specs.Maps.{target_of, AreMapRanges, AreMerged}
 use Rattle.texts.specs.declared.ranges.FrameRange.{FrameRange}
 use Rattle.described.specs.declared.item.What.{What}
 use Rattle.described.specs.declared.item.What.TheVariants as whats
-use Rattle.domain_plan.specs.declared.described.Guest.{Guest}
+use Rattle.domain_plan.specs.declared.guests.Guest.{Guest}
 use Rattle.domain_bindings.specs.declared.host.Host.{Host}
 use Rattle.described.specs.declared.loaded.Loaded.{Loaded}
-use Rattle.domain_plan.specs.declared.described.PartialState.{PartialState}
-use Rattle.domain_plan.specs.declared.described.PartialState.TheVariants as states
+use Rattle.domain_plan.specs.declared.guests.PartialState.{PartialState}
+use Rattle.domain_plan.specs.declared.guests.PartialState.TheVariants as states
 use Rattle.domain_plan.specs.declared.planned.GuestPlan.{GuestPlan}
 use Rattle.frame_ranges.specs.Ranges.{touched}
 use Rattle.domain_plan.specs.Entries.{joined}

@@ -8,7 +8,7 @@ ghost use Rattle.domain_plan.specs.Taken.{Passed, belongs_to, all_passed};
 ghost use Rattle.domain_plan.specs.Refusals.{first_refused};
 ghost use Rattle.domain_plan.specs.PrivateStanding.{Stands, Checked, AreOfHost};
 
-use crate::described::{Guest, PartialState};
+use crate::guests::{Guest, PartialState};
 use crate::passing::check_items;
 use crate::planned::PlanFault;
 use crate::state::{Owner, State};

@@ -6,7 +6,7 @@ ghost use Rattle.domain_plan.specs.Taken.{Passed};
 ghost use Rattle.domain_plan.specs.PrivateStanding.{taken_from, claims_taken};
 ghost use Rattle.domain_plan.specs.Draws.{Drawn, Heaps, groups_drawn, drawn, heaps, free_frames};
 
-use crate::described::Guest;
+use crate::guests::Guest;
 use crate::planned::PlanFault;
 use crate::state::Taken;
 use described::{Item, Part, Why};

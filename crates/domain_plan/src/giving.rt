@@ -11,7 +11,7 @@ ghost use Rattle.domain_plan.specs.PrivateGiving.{irq_of, Gives};
 ghost use Rattle.domain_plan.specs.PrivateLaying.{total, AreLowFrames, maps_by};
 
 use crate::checking::{is_read, partial_items};
-use crate::described::Guest;
+use crate::guests::Guest;
 use crate::passing::takes_of;
 use crate::runs::{Run, placed_item};
 use crate::state::{Owner, State};

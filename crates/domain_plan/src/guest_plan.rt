@@ -13,8 +13,8 @@ ghost use Rattle.domain_plan.specs.Plans.{banks_filled, gic_of, IsGuestPlan};
 ghost use Rattle.domain_plan.specs.Regions.{placed_item};
 ghost use Rattle.domain_plan.specs.PrivateGiving.{IsReady};
 
-use crate::described::{Guest, PartialState};
 use crate::giving::{Given, gather};
+use crate::guests::{Guest, PartialState};
 use crate::ordering::{in_order, joined_ranges};
 use crate::planned::GuestPlan;
 use crate::runs::Run;

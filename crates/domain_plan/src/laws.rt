@@ -3,7 +3,7 @@ ghost use Rattle.domain_plan.specs.Arguments.{AreRead};
 ghost use Rattle.domain_plan.specs.Apart.{GuestsAreApart};
 ghost use Rattle.domain_plan.specs.Memories.{MemoryIsMapped};
 
-use crate::described::Guest;
+use crate::guests::Guest;
 use described::Loaded;
 use domain_bindings::Host;
 use texts::List;

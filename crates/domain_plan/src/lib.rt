@@ -2,11 +2,11 @@
 #![tactic(auto)]
 
 mod checking;
-mod described;
 mod draws;
 mod earliest;
 mod giving;
 mod guest_plan;
+mod guests;
 mod irqs;
 pub mod laws;
 mod layouts;
@@ -21,7 +21,7 @@ mod state;
 mod takes;
 mod takings;
 
-pub use described::{Guest, PartialState};
+pub use guests::{Guest, PartialState};
 pub use planned::{GuestPlan, Plan, PlanFault};
 pub use planning::plan;
 pub use runs::Run;

@@ -10,9 +10,9 @@ ghost use Rattle.domain_plan.specs.Draws.{free_frames};
 ghost use Rattle.domain_plan.specs.Plans.{Draws, passed_of, placed_of, draws, outcome, AreGuestPlans};
 
 use crate::checking::check_all;
-use crate::described::Guest;
 use crate::draws::{draw_for_guests, free_pool};
 use crate::guest_plan::guest_plan;
+use crate::guests::Guest;
 use crate::planned::{GuestPlan, Plan, PlanFault};
 use crate::runs::{Run, draw_for_regions};
 use described::Loaded;

@@ -8,7 +8,7 @@ use Rattle.described.specs.declared.item.What.{What}
 use Rattle.described.specs.declared.item.What.TheVariants as whats
 use Rattle.texts.specs.declared.ranges.FrameRange.{FrameRange}
 use Rattle.frame_ranges.specs.Ranges.{touched}
-use Rattle.domain_plan.specs.declared.described.Guest.{Guest}
+use Rattle.domain_plan.specs.declared.guests.Guest.{Guest}
 use Rattle.domain_plan.specs.Arguments.{IsSoundGuest, whats_of}
 use Rattle.domain_plan.specs.Entries.{items_of, is_read}
 use Rattle.domain_plan.specs.Plans.{as_pair, banks_filled, memories_of, port_of, region_of, said_by, static_memory}

@@ -13,7 +13,7 @@ use Rattle.domain_bindings.specs.Domains.{guest_nodes}
 use Rattle.domain_bindings.specs.Heads.{head_item, head_reason, head_what, is_past_limit}
 use Rattle.domain_bindings.proofs.Sound.{own-described}
 use Rattle.domain_bindings.specs.declared.host.Host.{Host}
-use Rattle.domain_plan.specs.declared.described.Guest.{Guest}
+use Rattle.domain_plan.specs.declared.guests.Guest.{Guest}
 use Rattle.domain_plan.specs.declared.planned.GuestPlan.{GuestPlan}
 use Rattle.domain_plan.specs.Arguments.{has_no_fault}
 use Rattle.domain_plan.specs.Entries.{Entry, joined, of_host, load_item, guest_entries}

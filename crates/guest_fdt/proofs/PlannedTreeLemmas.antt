@@ -11,7 +11,7 @@ use Rattle.fdt_nodes.specs.Nodes.{Node}
 use Rattle.domain_bindings.specs.Heads.{head_item}
 use Rattle.domain_bindings.specs.declared.host.Host.{Host}
 use Rattle.static_links.specs.Channels.{event_channels}
-use Rattle.domain_plan.specs.declared.described.Guest.{Guest}
+use Rattle.domain_plan.specs.declared.guests.Guest.{Guest}
 use Rattle.domain_plan.specs.declared.planned.GuestPlan.{GuestPlan}
 use Rattle.domain_plan.specs.Arguments.{AreRead, IsSoundGuest, has_no_fault}
 use Rattle.domain_plan.specs.Entries.{items_of, joined}

@@ -8,11 +8,11 @@ mod links;
 mod machine;
 mod make;
 mod modules;
+mod names;
 mod phandles;
 mod properties;
 mod script;
 mod start;
-mod texts;
 mod words;
 
 pub use command::{Command, Piece};

@@ -6,9 +6,9 @@ ghost use Rattle.ib_script.specs.Phandles.{groups_before};
 ghost use Rattle.ib_script.specs.Properties.{cells};
 
 use crate::command::Command;
+use crate::names::{below, numbered};
 use crate::phandles::peer_phandle;
 use crate::properties::{put_cell, put_cells, put_node, put_wide, put_word};
-use crate::texts::{below, numbered};
 use ib_config::{Config, PortGroup, ShmGroup};
 use std::alloc::{AllocError, Global};
 use texts::List;

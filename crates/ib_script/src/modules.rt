@@ -8,8 +8,8 @@ ghost use Rattle.ib_script.specs.Script.{dom0_commands};
 ghost use Rattle.ib_script.specs.PrivateCounts.{dom0_count};
 
 use crate::command::Command;
+use crate::names::below;
 use crate::properties::{put_module, put_optional_word};
-use crate::texts::below;
 use ib_placement::FilePlace;
 use std::alloc::{AllocError, Global};
 use texts::{List, Text};

@@ -5,7 +5,7 @@ ghost use Rattle.std.specs.Option.{option_copied};
 ghost use Rattle.ib_script.specs.Properties.{two_cells, cells, word, on, on_some, two_and_two, module_at};
 
 use crate::command::{Command, Piece};
-use crate::texts::{below, text_of};
+use crate::names::{below, text_of};
 use ib_placement::FilePlace;
 use std::alloc::{AllocError, Global};
 use texts::{List, Text};

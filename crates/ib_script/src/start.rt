@@ -5,8 +5,8 @@ ghost use Rattle.ib_script.specs.Script.{load_words as words_of, load_command, t
 
 use crate::command::Command;
 use crate::make::LoadKind;
+use crate::names::text_of;
 use crate::properties::{put_node, put_two_and_two, put_word};
-use crate::texts::text_of;
 use ib_placement::FilePlace;
 use std::alloc::{AllocError, Global};
 use texts::List;

@@ -13,8 +13,8 @@ ghost use Rattle.image_audit.specs.Findings.{audit_finding};
 ghost use Rattle.image_audit.specs.PrivateRests.{is_outside, IsLeft};
 
 use crate::finding::find_finding;
+use crate::findings_text::make_image_fault_text;
 use crate::frames::{all_frames, find_unmapped, leave_tables};
-use crate::texts::make_image_fault_text;
 use build_outputs::make_image_name;
 use described::MapRange;
 use domain_plan::GuestPlan;

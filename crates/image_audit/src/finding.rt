@@ -10,8 +10,8 @@ ghost use Rattle.image_audit.specs.Texts.{table_mapped, table_shared};
 ghost use Rattle.image_audit.specs.PrivateRests.{is_outside};
 
 use crate::differences::{find_parting, planned_goal, walked_goal};
+use crate::findings_text::{make_difference_text, make_frame_text, make_tear_text};
 use crate::frames::find_outside;
-use crate::texts::{make_difference_text, make_frame_text, make_tear_text};
 use described::MapRange;
 use stage2_walk::{Counted, Image, Run, runs};
 use std::alloc::{AllocError, Global};

@@ -5,8 +5,8 @@
 mod audit;
 mod differences;
 mod finding;
+mod findings_text;
 mod frames;
-mod texts;
 
 pub use audit::audit_images;
-pub use texts::make_checked_line;
+pub use findings_text::make_checked_line;

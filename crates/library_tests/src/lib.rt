@@ -14,6 +14,6 @@ mod frame_pool;
 #[cfg(test)]
 mod nodes;
 #[cfg(test)]
-mod outside;
+mod real_files;
 #[cfg(test)]
 mod trees;

@@ -4,7 +4,7 @@ use Rattle.described.specs.Maps.{AreMapRanges, AreMerged}
 use Rattle.described.specs.declared.item.Item.{Item}
 use Rattle.described.specs.declared.why.Why.{Why}
 use Rattle.domain_bindings.specs.declared.host.Host.{Host}
-use Rattle.domain_plan.specs.declared.described.Guest.{Guest}
+use Rattle.domain_plan.specs.declared.guests.Guest.{Guest}
 use Rattle.domain_plan.specs.declared.planned.GuestPlan.{GuestPlan}
 use Rattle.domain_plan.specs.declared.planned.Plan.{Plan}
 use Rattle.domain_plan.specs.declared.planned.PlanFault.{PlanFault}

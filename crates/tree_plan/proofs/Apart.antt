@@ -7,7 +7,7 @@ use Rattle.described.specs.Maps.{Target, target_of}
 use Rattle.texts.specs.declared.ranges.FrameRange.{FrameRange}
 use Rattle.frame_alloc.specs.Frames.{AreFrames}
 use Rattle.domain_bindings.specs.declared.host.Host.{Host}
-use Rattle.domain_plan.specs.declared.described.Guest.{Guest}
+use Rattle.domain_plan.specs.declared.guests.Guest.{Guest}
 use Rattle.domain_plan.specs.declared.planned.GuestPlan.{GuestPlan}
 use Rattle.domain_plan.specs.Apart.{AreApart, is_in_one_region}
 use Rattle.domain_plan.specs.GuestMaps.{guest_ranges}

@@ -16,7 +16,7 @@ use Rattle.domain_bindings.specs.Hosts.{host_items, dom0_items, ram_regions}
 use Rattle.domain_bindings.specs.Ram.{IsRam}
 use Rattle.domain_bindings.proofs.HostDeviceLemmas.{areas-usable, console-usable}
 use Rattle.domain_bindings.proofs.RamLemmas.{AreFrameRanges-merged}
-use Rattle.domain_plan.specs.declared.described.Guest.{Guest}
+use Rattle.domain_plan.specs.declared.guests.Guest.{Guest}
 use Rattle.described.specs.declared.loaded.Loaded.{Loaded}
 use Rattle.domain_plan.specs.declared.planned.GuestPlan.{GuestPlan}
 use Rattle.domain_plan.specs.Arguments.{AreRead}

@@ -17,10 +17,10 @@ use Rattle.passthrough_dtb.specs.Gic.{guest_gic}
 use Rattle.passthrough_dtb.specs.Items.{partial_items}
 use Rattle.static_links.specs.Ports.{port_items}
 use Rattle.static_links.specs.Shared.{shared_items}
-use Rattle.domain_plan.specs.declared.described.Guest.{Guest}
+use Rattle.domain_plan.specs.declared.guests.Guest.{Guest}
 use Rattle.described.specs.declared.loaded.Loaded.{Loaded}
-use Rattle.domain_plan.specs.declared.described.PartialState.{PartialState}
-use Rattle.domain_plan.specs.declared.described.PartialState.TheVariants as states
+use Rattle.domain_plan.specs.declared.guests.PartialState.{PartialState}
+use Rattle.domain_plan.specs.declared.guests.PartialState.TheVariants as states
 
 -- the host's tree, its reservations, the loaded files, and for each guest its partial tree, where it was read
 pub record Description : Type 0 where

@@ -3,7 +3,7 @@ use Rattle.std.specs.Option.{option_or}
 use Rattle.texts.specs.declared.ranges.FrameRange.{FrameRange}
 use Rattle.domain_bindings.specs.declared.host.Host.{Host}
 use Rattle.described.specs.declared.loaded.Loaded.{Loaded}
-use Rattle.domain_plan.specs.declared.described.Guest.{Guest}
+use Rattle.domain_plan.specs.declared.guests.Guest.{Guest}
 use Rattle.domain_plan.specs.Entries.{Entry, of_host, load_item, guest_entries, joined}
 use Rattle.domain_plan.specs.Taken.{Passed, all_passed}
 use Rattle.domain_plan.specs.Refusals.{Refusal, first_refused}

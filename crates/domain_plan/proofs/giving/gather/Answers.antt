@@ -1,7 +1,7 @@
 use Rattle.std.proofs.Common.{◌≡◌, Bool, List, [], ◌++◌, map, Some, All, refl, sym, ap, subst, ◌∙◌}
 use Rattle.described.specs.declared.item.Described.{Described}
 use Rattle.described.specs.declared.map_range.MapRange.{MapRange}
-use Rattle.domain_plan.specs.declared.described.Guest.{Guest}
+use Rattle.domain_plan.specs.declared.guests.Guest.{Guest}
 use Rattle.domain_plan.specs.declared.giving.Given.{Given}
 use Rattle.domain_plan.specs.declared.state.Owner.{Owner}
 use Rattle.described.specs.Sound.{IsSound}

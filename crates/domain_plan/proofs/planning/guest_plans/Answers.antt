@@ -1,7 +1,7 @@
 use Rattle.std.proofs.Common.{◌≡◌, ◌<◌, ◌≤◌, List, [], map, Vec, Global, Some, length, sym, ap, subst, ◌∙◌, arith}
 use Rattle.std.specs.Prelude.{slice_get}
 use Rattle.texts.specs.declared.ranges.FrameRange.{FrameRange}
-use Rattle.domain_plan.specs.declared.described.Guest.{Guest}
+use Rattle.domain_plan.specs.declared.guests.Guest.{Guest}
 use Rattle.domain_plan.specs.Entries.{of_guest, is_read, items_of}
 use Rattle.domain_plan.specs.Taken.{all_passed}
 use Rattle.domain_plan.specs.Plans.{Draws, placed_of, IsGuestPlan, AreGuestPlans}
