@@ -6,7 +6,7 @@ use Rattle.described.specs.Maps.{AreSortedFrom}
 use Rattle.described.specs.declared.map_range.Kind.{Kind}
 use Rattle.described.specs.declared.map_range.Kind.TheVariants.{Ram, Device, Shared}
 use Rattle.described.specs.declared.map_range.MapRange.{MapRange}
-use Rattle.build_report.specs.PrivateAddresses.{HasAddresses}
+use Rattle.described.specs.RunLines.{HasAddresses}
 use Rattle.build_report.specs.Lines.{ram_in, ram_pages}
 
 -- its pages and frames have addresses

@@ -1,36 +1,13 @@
 -- The lines of a report.
-use Rattle.std.specs.Prelude.{ℕ, ◌*◌, ◌==◌, ◌++◌, List, [], ◌∷◌, codes, decimal, if◌then◌else◌, sum_by}
-use Rattle.texts.specs.NumberTexts.{hexadecimal}
-use Rattle.described.specs.declared.map_range.Kind.{Kind}
-use Rattle.described.specs.declared.map_range.Kind.TheVariants.{Ram, Device, Shared}
+use Rattle.std.specs.Prelude.{ℕ, ◌==◌, ◌++◌, List, codes, decimal, if◌then◌else◌, sum_by}
+use Rattle.texts.specs.Lines.{text_line}
+use Rattle.described.specs.declared.map_range.Kind.TheVariants.{Ram}
 use Rattle.described.specs.declared.map_range.MapRange.{MapRange}
 use Rattle.domain_plan.specs.declared.planned.GuestPlan.{GuestPlan}
 
--- a line ends with a line feed
-abbrev pub line : List ℕ → List ℕ
-line text = text ++ 10 ∷ []
-
--- a kind as it is shown
-unfoldable pub kind_text : Kind → List ℕ
-kind_text Ram = codes "ram"
-kind_text Device = codes "device"
-kind_text Shared = codes "shared"
-
--- the address of a page or a frame, as it is shown
-abbrev pub address_text : ℕ → List ℕ
-address_text page = hexadecimal (page * 4096)
-
--- where a run goes: its first guest page, and the first host frame
-abbrev pub places_text : MapRange → List ℕ
-places_text run = address_text run.page ++ (codes " -> " ++ address_text run.first)
-
--- the line of a run: where it goes, how many pages it has, and their kind
-abbrev pub run_line : MapRange → List ℕ
-run_line run = line (codes "  " ++ (places_text run ++ (codes " pages " ++ (decimal run.count ++ (codes " " ++ kind_text run.kind)))))
-
 -- the line of an interrupt
 abbrev pub spi_line : ℕ → List ℕ
-spi_line number = line (codes "  spi " ++ decimal number)
+spi_line number = text_line (codes "  spi " ++ decimal number)
 
 -- the number that stands for dom0 among peers
 abbrev pub dom0 : ℕ
@@ -42,7 +19,7 @@ peer_text peer = if peer == dom0 then codes "dom0" else codes "domU" ++ decimal 
 
 -- the line of a port: its number, the other side and its number there
 abbrev pub port_line : ℕ × ℕ × ℕ → List ℕ
-port_line (port, peer, peer_port) = line (codes "  port " ++ (decimal port ++ (codes " to " ++ (peer_text peer ++ (codes " " ++ decimal peer_port)))))
+port_line (port, peer, peer_port) = text_line (codes "  port " ++ (decimal port ++ (codes " to " ++ (peer_text peer ++ (codes " " ++ decimal peer_port)))))
 
 -- the pages of memory in a run
 abbrev pub ram_in : MapRange → ℕ
@@ -63,11 +40,11 @@ counts_text plan tables =
 
 -- the first line of a guest
 abbrev pub head_line : GuestPlan → ℕ → List ℕ
-head_line plan tables = line (name_text plan ++ counts_text plan tables)
+head_line plan tables = text_line (name_text plan ++ counts_text plan tables)
 
 -- the last line: how many frames are left
 abbrev pub free_line : ℕ → List ℕ
-free_line frames = line (codes "free " ++ decimal frames)
+free_line frames = text_line (codes "free " ++ decimal frames)
 
 -- a count with what stands before it
 abbrev pub counted : List ℕ → ℕ → List ℕ
@@ -76,4 +53,4 @@ counted label count = label ++ decimal count
 -- the line of the tree that is generated for a number: how many guests it has, their pages of memory and the tables of their images, and how many frames are left
 abbrev pub generated_line : ℕ → ℕ → ℕ → ℕ → ℕ → List ℕ
 generated_line number guests ram tables free =
-    line (counted (codes "gen ") number ++ (counted (codes " guests ") guests ++ (counted (codes " ram ") ram ++ (counted (codes " tables ") tables ++ counted (codes " free ") free))))
+    text_line (counted (codes "gen ") number ++ (counted (codes " guests ") guests ++ (counted (codes " ram ") ram ++ (counted (codes " tables ") tables ++ counted (codes " free ") free))))

@@ -1,12 +1,12 @@
 // The lines of a guest.
 ghost use Rattle.std.specs.Prelude.{◌≡◌, ◌++◌, All, OnOk, flat_map};
 ghost use Rattle.described.specs.Maps.{AreMapRanges};
-ghost use Rattle.build_report.specs.Lines.{port_line, ram_pages, run_line, spi_line};
-ghost use Rattle.build_report.specs.PrivateAddresses.{HasAddresses};
+ghost use Rattle.build_report.specs.Lines.{port_line, ram_pages, spi_line};
+ghost use Rattle.described.specs.RunLines.{run_line, HasAddresses};
 ghost use Rattle.build_report.specs.Report.{guest_lines};
 
-use crate::lines::{append_head, append_port, append_run, append_spi, pages_in};
-use described::MapRange;
+use crate::lines::{append_head, append_port, append_spi, pages_in};
+use described::{MapRange, append_run};
 use domain_plan::GuestPlan;
 use std::alloc::{AllocError, Global};
 use texts::Bytes;

@@ -1,7 +1,6 @@
 // The lines of a report, each added to those before. After want of memory part of a line may stand there.
 ghost use Rattle.std.specs.Prelude.{◌≡◌, ◌++◌, ◌<◌, ◌^◌, OnOk, codes, decimal};
-ghost use Rattle.build_report.specs.Lines.{kind_text, address_text, places_text, run_line, spi_line, peer_text, port_line, name_text, counts_text, head_line, free_line, counted, generated_line, ram_in, ram_pages};
-ghost use Rattle.build_report.specs.PrivateAddresses.{HasAddresses};
+ghost use Rattle.build_report.specs.Lines.{spi_line, peer_text, port_line, name_text, counts_text, head_line, free_line, counted, generated_line, ram_in, ram_pages};
 
 use described::{Kind, MapRange};
 use domain_plan::GuestPlan;
@@ -48,54 +47,6 @@ pub fn append_generated(
     append_count(alloc, text, b" tables ", tables)?;
     append_count(alloc, text, b" free ", free)?;
     text.append(b"\n")
-}
-
-/// A kind as it is shown.
-#[tactic(auto, unfolding(crate::specs::Lines::kind_text))]
-pub fn kind_text(kind: Kind) -> &'static [u8]
-    ensures { result.now ≡ kind_text kind }
-{
-    match kind {
-        Kind::Ram => b"ram",
-        Kind::Device => b"device",
-        Kind::Shared => b"shared",
-    }
-}
-
-/// Adds the address of a page or a frame.
-fn append_address(alloc: Global, report: &mut Bytes, page: u64) -> Result<(), AllocError>
-    requires { page < 2 ^ 28 }
-    ensures { OnOk result (report.new ≡ report.old ++ address_text page) }
-{
-    report.append_hexadecimal(alloc, page * 4096)
-}
-
-/// Adds where a run goes.
-fn append_places(alloc: Global, report: &mut Bytes, run: &MapRange) -> Result<(), AllocError>
-    requires { HasAddresses run.now }
-    ensures { OnOk result (report.new ≡ report.old ++ places_text run.now) }
-{
-    append_address(alloc, report, run.page)?;
-    report.append(b" -> ")?;
-    append_address(alloc, report, run.first)
-}
-
-/// Adds the line of a run.
-pub(crate) fn append_run(
-    alloc: Global,
-    report: &mut Bytes,
-    run: &MapRange,
-) -> Result<(), AllocError>
-    requires { HasAddresses run.now }
-    ensures { OnOk result (report.new ≡ report.old ++ run_line run.now) }
-{
-    report.append(b"  ")?;
-    append_places(alloc, report, run)?;
-    report.append(b" pages ")?;
-    report.append_decimal(alloc, run.count)?;
-    report.append(b" ")?;
-    report.append(kind_text(run.kind))?;
-    report.append(b"\n")
 }
 
 /// Adds the line of an interrupt.

@@ -4,4 +4,6 @@ pub mod Maps
 pub mod Reasons
 pub mod Regions
 pub mod Sound
+pub mod RunLines
 pub use Rattle.texts.specs.Consecutive
+pub use Rattle.texts.specs.Lines

@@ -7,6 +7,7 @@ mod layout;
 mod loaded;
 mod map_range;
 mod reasons;
+mod run_lines;
 mod shown;
 mod why;
 
@@ -15,4 +16,5 @@ pub use layout::{Layout, usual_layout};
 pub use loaded::Loaded;
 pub use map_range::{Kind, MapRange};
 pub use reasons::{described, is_not_page, is_too_high, is_too_large};
+pub use run_lines::{append_address, append_run, kind_text};
 pub use why::Why;

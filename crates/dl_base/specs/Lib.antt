@@ -2,6 +2,7 @@ pub use Rattle.texts.specs.Consecutive
 pub use Rattle.texts.specs.NumberTexts
 pub use Rattle.texts.specs.Rows
 pub use Rattle.texts.specs.Stores
+pub use Rattle.texts.specs.Lines
 pub use Rattle.outside.specs.Fakes
 pub use Rattle.outside.specs.Outside
 pub use Rattle.outside.specs.Places
@@ -12,3 +13,4 @@ pub use Rattle.described.specs.Maps
 pub use Rattle.described.specs.Reasons
 pub use Rattle.described.specs.Regions
 pub use Rattle.described.specs.Sound
+pub use Rattle.described.specs.RunLines

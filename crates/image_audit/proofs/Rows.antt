@@ -1,7 +1,7 @@
 -- What findings look like.
 use Rattle.std.proofs.Common.{◌≡◌, refl, codes, Some, None}
 use Rattle.std.specs.Fmt.{digits}
-use Rattle.build_report.specs.Lines.{kind_text}
+use Rattle.described.specs.RunLines.{kind_text}
 use Rattle.stage2_walk.specs.declared.audit_fault.AuditFault.TheVariants as tears
 use Rattle.stage2_walk.specs.declared.image_fault.ImageFault.TheVariants as faults
 use Rattle.image_audit.specs.Texts.{image_fault_text, frame_text, tear_text, difference_text, table_mapped, table_shared, checked_line}

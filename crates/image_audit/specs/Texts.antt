@@ -7,7 +7,7 @@ use Rattle.stage2_walk.specs.declared.audit_fault.AuditFault.{AuditFault}
 use Rattle.stage2_walk.specs.declared.audit_fault.AuditFault.TheVariants as tears
 use Rattle.stage2_walk.specs.declared.image_fault.ImageFault.{ImageFault}
 use Rattle.stage2_walk.specs.declared.image_fault.ImageFault.TheVariants as faults
-use Rattle.build_report.specs.Lines.{address_text, kind_text}
+use Rattle.described.specs.RunLines.{address_text, kind_text}
 
 -- a name with the number of a page in the file
 abbrev pub at_page : List ℕ → ℕ → List ℕ

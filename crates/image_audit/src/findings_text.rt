@@ -4,8 +4,7 @@ ghost use Rattle.std.specs.Option.{ForSome};
 ghost use Rattle.image_audit.specs.Texts.{attributes_text, checked_line, difference_text, frame_text, goal_text, image_fault_text, tear_text};
 
 use crate::differences::attributes;
-use build_report::kind_text;
-use described::Kind;
+use described::{Kind, kind_text};
 use stage2_walk::{AuditFault, ImageFault};
 use std::alloc::{AllocError, Global};
 use texts::Bytes;

@@ -2,3 +2,4 @@ pub mod Consecutive
 pub mod NumberTexts
 pub mod Rows
 pub mod Stores
+pub mod Lines
