@@ -10,8 +10,8 @@ use Rattle.run_steps.specs.Trees.{FlatTree, AfterTreeFile, IsTreeFile}
 use Rattle.run_steps.proofs.Step.{Avoids, hand_on, hand_on_avoids, both_avoid}
 use Rattle.run_steps.proofs.ReadingSteps.{tree_file_step}
 use Rattle.run_steps.proofs.Avoided.{IsOfNoFile, tree_avoids}
-use Rattle.fdt_overlay.specs.declared.fault.OverlayFault.{OverlayFault}
-use Rattle.fdt_overlay.specs.Applied.{applied}
+use Rattle.overlaid_trees.specs.declared.fault.OverlayFault.{OverlayFault}
+use Rattle.overlaid_trees.specs.Applied.{applied}
 use Rattle.fdt_overlay.specs.Lines.{fault_message}
 use Rattle.fdt_overlay.specs.Asked.{Asked}
 use Rattle.fdt_overlay.specs.Overlays.{Made, made_of, AfterApplied, AfterOverlay, AfterOverlays, AfterAll}

@@ -7,7 +7,7 @@ use Rattle.run_steps.specs.Laws.{IsDetermined}
 use Rattle.run_steps.specs.Steps.{IsRefusal}
 use Rattle.run_steps.specs.Trees.{AfterTreeFile}
 use Rattle.run_steps.proofs.OneOutcome.{Decides, both_decide, hand_on_decides, refusals_agree, writings_agree, on_result_decides, tree_file_decides}
-use Rattle.fdt_overlay.specs.Applied.{applied}
+use Rattle.overlaid_trees.specs.Applied.{applied}
 use Rattle.fdt_overlay.specs.Lines.{fault_message}
 use Rattle.fdt_overlay.specs.Asked.{Asked, asked}
 use Rattle.fdt_overlay.specs.Overlays.{Made, made_of, AfterApplied, AfterOverlay, AfterOverlays, AfterAll}

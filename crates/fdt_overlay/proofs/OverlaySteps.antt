@@ -6,14 +6,14 @@ use Rattle.outside.specs.Outside.{File}
 use Rattle.outside.specs.declared.status.Status.TheVariants as statuses
 use Rattle.fdt_tree.specs.Tree.{Tree}
 use Rattle.run_steps.specs.Endings.{Outcome, Refuses}
-use Rattle.fdt_overlay.specs.declared.fault.OverlayFault.{OverlayFault}
-use Rattle.fdt_overlay.specs.declared.fault.OverlayFault.TheVariants.{Memory}
+use Rattle.overlaid_trees.specs.declared.fault.OverlayFault.{OverlayFault}
+use Rattle.overlaid_trees.specs.declared.fault.OverlayFault.TheVariants.{Memory}
 use Rattle.run_steps.specs.Steps.{IsRefusal, OnResult, GiveEach, nothing}
 use Rattle.run_steps.specs.Trees.{FlatTree, AfterTreeFile, IsTreeFile}
 use Rattle.run_steps.proofs.Step.{Next, IsStep, and_then, hand_on, hand_on_step, on_result_step}
 use Rattle.run_steps.proofs.ReadingSteps.{tree_file_step}
-use Rattle.fdt_overlay.specs.Turns.{each}
-use Rattle.fdt_overlay.specs.Applied.{applied, all_applied}
+use Rattle.overlaid_trees.specs.Turns.{each}
+use Rattle.overlaid_trees.specs.Applied.{applied, all_applied}
 use Rattle.fdt_overlay.specs.Lines.{fault_message}
 use Rattle.fdt_overlay.specs.Asked.{Asked}
 use Rattle.fdt_overlay.specs.Overlays.{AfterApplied, AfterOverlay, AfterOverlays, Made, made_of, AfterAll, IsMade}

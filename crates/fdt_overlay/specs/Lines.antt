@@ -1,8 +1,8 @@
 -- What a run says on `err`: a message is one line behind the program's name.
 use Rattle.std.specs.Prelude.{ℕ, ◌-◌, ◌^◌, min, List, ◌++◌, codes, decimal}
 use Rattle.run_steps.specs.Messages as messages
-use Rattle.fdt_overlay.specs.declared.fault.OverlayFault.{OverlayFault}
-use Rattle.fdt_overlay.specs.declared.fault.OverlayFault.TheVariants.{PhandleRange, BadLocal, Unresolved, BadFixup, NoTarget, Deep, Memory}
+use Rattle.overlaid_trees.specs.declared.fault.OverlayFault.{OverlayFault}
+use Rattle.overlaid_trees.specs.declared.fault.OverlayFault.TheVariants.{PhandleRange, BadLocal, Unresolved, BadFixup, NoTarget, Deep, Memory}
 
 -- a message of this program is one line on `err`, ended by a line feed
 abbrev pub line : List ℕ → List ℕ

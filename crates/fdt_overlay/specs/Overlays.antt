@@ -7,7 +7,7 @@ use Rattle.fdt_tree.specs.declared.reserve.Reserve.{Reserve}
 use Rattle.run_steps.specs.Endings.{Outcome}
 use Rattle.run_steps.specs.Steps.{IsRefusal, OnResult, GiveEach}
 use Rattle.run_steps.specs.Trees.{FlatTree, AfterTreeFile, IsTreeFile}
-use Rattle.fdt_overlay.specs.Applied.{applied, all_applied}
+use Rattle.overlaid_trees.specs.Applied.{applied, all_applied}
 use Rattle.fdt_overlay.specs.Lines.{fault_message}
 use Rattle.fdt_overlay.specs.Asked.{Asked}
 

@@ -4,7 +4,7 @@ use Rattle.outside.specs.Outside.{File}
 use Rattle.fdt_tree.specs.Tree.{Tree}
 use Rattle.fdt_read.specs.declared.flat.Flat.{Flat}
 use Rattle.run_steps.specs.Trees.{FlatTree, IsTreeFile}
-use Rattle.fdt_overlay.specs.Applied.{applied}
+use Rattle.overlaid_trees.specs.Applied.{applied}
 use Rattle.fdt_overlay.specs.Asked.{Asked}
 use Rattle.fdt_overlay.specs.Overlays.{Made, made_of}
 

@@ -2,7 +2,7 @@
 ghost use Rattle.std.specs.Prelude.{◌≡◌, ◌-◌, ◌^◌, ◌++◌, min, IfOk, OnOk};
 ghost use Rattle.fdt_overlay.specs.Lines.{fault_text, fault_message, too_long_message};
 
-use crate::fault::OverlayFault;
+use overlaid_trees::OverlayFault;
 use run_steps::make_file_message;
 use std::alloc::{AllocError, Global};
 use texts::Bytes;

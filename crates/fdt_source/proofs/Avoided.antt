@@ -7,7 +7,7 @@ use Rattle.run_steps.specs.Endings.{Refuses}
 use Rattle.run_steps.specs.Trees.{FlatTree}
 use Rattle.run_steps.proofs.ReadingSteps.{tree_file_step}
 use Rattle.run_steps.proofs.Avoided.{IsOfNoFile, tree_avoids}
-use Rattle.fdt_source.specs.BadNames.{first_bad}
+use Rattle.source_text.specs.BadNames.{first_bad}
 use Rattle.fdt_source.specs.Texts.{SourceTree}
 use Rattle.fdt_source.specs.Words.{Asked, Print, Build}
 use Rattle.fdt_source.specs.Job.{OnBadName, IsPrinting, IsBuilding, IsAskedJob}

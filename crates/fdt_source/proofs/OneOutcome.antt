@@ -4,7 +4,7 @@ use Rattle.outside.specs.Outside.{File}
 use Rattle.run_steps.specs.Laws.{IsDetermined}
 use Rattle.run_steps.specs.Trees.{FlatTree}
 use Rattle.run_steps.proofs.OneOutcome.{refusals_agree, writings_agree, tree_file_decides}
-use Rattle.fdt_source.specs.BadNames.{first_bad}
+use Rattle.source_text.specs.BadNames.{first_bad}
 use Rattle.fdt_source.specs.Texts.{SourceTree}
 use Rattle.fdt_source.specs.Words.{Asked, Print, Build, asked}
 use Rattle.fdt_source.specs.Job.{OnBadName, IsPrinting, IsBuilding, IsAskedJob, IsWordsJob}

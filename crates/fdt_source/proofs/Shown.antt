@@ -12,8 +12,8 @@ use Rattle.run_steps.specs.Endings.{Builds}
 use Rattle.run_steps.specs.Trees.{FlatTree, AfterTreeFile, IsTreeFile}
 use Rattle.run_steps.proofs.Step.{found_by}
 use Rattle.run_steps.proofs.ReadingSteps.{tree_file_step}
-use Rattle.fdt_source.specs.BadNames.{first_bad}
-use Rattle.fdt_source.specs.Printed.{printed}
+use Rattle.source_text.specs.BadNames.{first_bad}
+use Rattle.source_text.specs.Printed.{printed}
 use Rattle.fdt_source.specs.Texts.{SourceTree, AfterTextFile, IsTextFile}
 use Rattle.fdt_source.specs.Job.{OnBadName, IsPrinting, tree_of, IsBuilding}
 use Rattle.fdt_source.proofs.TextSteps.{text_file_step}

@@ -1,14 +1,11 @@
 -- Reading a text is a step.
-use Rattle.std.proofs.Common.{◌≡◌, ◌∙◌, refl, sym, ap, subst, arith, ℕ, zero, suc, ◌+◌, ◌<◌, ◌≤◌, List, [], ◌∷◌, ◌++◌, length, take, append_assoc, inl, inr, Bool, true, false, cond}
-use Rattle.std.specs.Prelude.{◌⊎◌, Option, Some, Ok, IsTrue, not, filter}
-use Rattle.std.specs.List.{list_all}
-use Rattle.std.proofs.lemmas.Bool.{cases_order}
+use Rattle.std.proofs.Common.{◌≡◌, ◌∙◌, sym, ap, subst, ℕ, List, inl, inr}
+use Rattle.std.specs.Prelude.{◌⊎◌, Option, Some, Ok}
 use Rattle.outside.specs.Outside.{File}
 use Rattle.outside.specs.declared.status.Status.{Status}
 use Rattle.outside.specs.declared.status.Status.TheVariants as statuses
 use Rattle.fdt_tree.specs.Tree.{Bytes, Tree}
 use Rattle.fdt_tree.specs.declared.reserve.Reserve.{Reserve}
-use Rattle.fdt_read.specs.Reservations.{is_last_pair}
 use Rattle.run_steps.specs.Endings.{Outcome, Builds}
 use Rattle.run_steps.specs.Steps.{IsRefusal, IsReading, AfterReading, nothing}
 use Rattle.run_steps.proofs.Step.{Next, IsStep, Avoids, and_then, said_as, both_avoid}
@@ -16,9 +13,10 @@ use Rattle.run_steps.proofs.ReadingSteps.{reading_step}
 use Rattle.run_steps.proofs.Avoided.{IsOfNoFile, reading_avoids}
 use Rattle.run_steps.proofs.OneOutcome.{Decides, both_decide, reading_decides, refusals_agree}
 use Rattle.fdt_source.specs.Messages.{syntax_message}
-use Rattle.fdt_source.specs.Source.{IsSource, Begins, DepartsAt, is_said}
+use Rattle.source_text.specs.Source.{IsSource}
 use Rattle.fdt_source.specs.Texts.{text_limit, SourceTree, AfterText, AfterTextFile, IsTextFile}
-use Rattle.fdt_source.proofs.Only.{only}
+use Rattle.source_text.proofs.Only.{only}
+use Rattle.source_text.proofs.Departures.{departs_once}
 
 -- what the bytes say
 abbrev pub Says : Bytes → SourceTree → Type 0
@@ -61,35 +59,6 @@ module _ (status : Status) (other : IsOfNoFile status) where
   text_avoids told name =
       both_avoid (λ bytes. IsReading told name text_limit (Ok bytes)) status (AfterReading told name text_limit) (AfterText name) (reading_step told name text_limit) (reading_avoids status other told name text_limit) (says_avoid name)
 
--- a front of what begins a source begins one
-begins_front : (text more : Bytes) → Begins (text ++ more) → Begins text
-begins_front text more b = (more ++ b.0, b.1, b.2, subst (λ (z : Bytes). IsSource z b.1 b.2) (append_assoc text more b.0) b.3)
-
-front_of : (n m : ℕ) (bytes : Bytes) → n ≤ m → (more : Bytes) × (take m bytes ≡ take n bytes ++ more)
-front_of zero m bytes le = (take m bytes, refl)
-front_of (suc n) zero bytes le = absurd (omega arith)
-front_of (suc n) (suc m) [] le = ([], refl)
-front_of (suc n) (suc m) (b ∷ bytes) le = let found = front_of n m bytes (omega arith) in (found.0, ap (λ z. b ∷ z) found.1)
-
--- bytes that depart do not depart later
-not_later : (bytes : Bytes) (n m : ℕ) → DepartsAt bytes n → DepartsAt bytes m → n < m → ⊥
-not_later bytes n m one other lt = by one.next other.next
-  where
-    by : (n ≡ length bytes) ⊎ ((n < length bytes) × (Begins (take (n + 1) bytes) → ⊥)) → (m ≡ length bytes) ⊎ ((m < length bytes) × (Begins (take (m + 1) bytes) → ⊥)) → ⊥
-    by (inl end) (inl last) = omega arith
-    by (inl end) (inr last) = let below = last.0 in omega (arith, below)
-    by (inr stuck) last = let front = front_of (n + 1) m bytes (omega arith) in stuck.1 (begins_front (take (n + 1) bytes) front.0 (subst Begins front.1 other.before))
-
--- so they depart at one offset
-pub departs_once : (bytes : Bytes) (n m : ℕ) → DepartsAt bytes n → DepartsAt bytes m → n ≡ m
-departs_once bytes n m one other = elim (cases_order n m) [
-  | inl same ↦ same
-  | inr apart ↦ elim apart [
-    | inl lt ↦ absurd (not_later bytes n m one other lt)
-    | inr gt ↦ absurd (not_later bytes m n other one gt)
-  ]
-]
-
 same_tree : (one other : SourceTree) → one.reserves ≡ other.reserves → one.root ≡ other.root → one ≡ other
 same_tree one other reserves root =
     let tree : List Reserve → Tree → SourceTree = λ r t. record { reserves = r; root = t } in
@@ -108,17 +77,3 @@ text_decides name bytes next determined a b (inr p) (inr q) =
 
 pub text_file_decides : (held : List File) (name : Bytes) → Decides (AfterTextFile (Some held) name)
 text_file_decides held name = both_decide (AfterReading (Some held) name text_limit) (AfterText name) (reading_decides held name text_limit) (text_decides name)
-
--- no reservation that is said ends the list
-one_more : (reserve : Reserve) (later : List Reserve) (test : Bool) → is_said reserve ≡ test → IsTrue (list_all (λ reserve. not (is_last_pair reserve)) later)
-    → IsTrue (list_all (λ reserve. not (is_last_pair reserve)) (cond test (reserve ∷ later) later))
-one_more reserve later true e ok = rw e ok
-one_more reserve later false e ok = ok
-
-all_said : (all : List Reserve) → IsTrue (list_all (λ reserve. not (is_last_pair reserve)) (filter is_said all))
-all_said [] = refl
-all_said (reserve ∷ later) = one_more reserve (filter is_said later) (is_said reserve) refl (all_said later)
-
-pub no_pair_ends : (bytes : Bytes) (reserves : List Reserve) (root : Tree) → IsSource bytes reserves root → IsTrue (list_all (λ reserve. not (is_last_pair reserve)) reserves)
-no_pair_ends bytes reserves root says =
-    subst (λ (said : List Reserve). IsTrue (list_all (λ reserve. not (is_last_pair reserve)) said)) (sym says.reserved.2) (all_said says.reserved.0)

@@ -6,8 +6,8 @@ use Rattle.fdt_write.specs.Flattened.{flattened, length_limit}
 use Rattle.run_steps.specs.Endings.{Outcome}
 use Rattle.run_steps.specs.Steps.{IsRefusal, IsWriting}
 use Rattle.run_steps.specs.Trees.{FlatTree, AfterTreeFile}
-use Rattle.fdt_source.specs.BadNames.{first_bad}
-use Rattle.fdt_source.specs.Printed.{printed}
+use Rattle.source_text.specs.BadNames.{first_bad}
+use Rattle.source_text.specs.Printed.{printed}
 use Rattle.fdt_source.specs.Messages.{bad_name_message, too_long_message}
 use Rattle.fdt_source.specs.Texts.{SourceTree, AfterTextFile}
 use Rattle.fdt_source.specs.Words.{Asked, Print, Build, asked}

@@ -3,7 +3,7 @@ use Rattle.fdt_source.specs.Words as words
 use Rattle.fdt_source.specs.Texts.{SourceTree}
 use Rattle.fdt_source.specs.declared.words.Asked.{Asked}
 use Rattle.fdt_source.specs.declared.words.Asked.TheVariants as kept
-use Rattle.fdt_source.specs.declared.read.Source.{Source}
+use Rattle.source_text.specs.declared.read.Source.{Source}
 
 -- what is asked for
 abbrev pub meant : Asked → words.Asked

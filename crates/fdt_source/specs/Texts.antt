@@ -7,7 +7,7 @@ use Rattle.fdt_tree.specs.declared.reserve.Reserve.{Reserve}
 use Rattle.run_steps.specs.Endings.{Outcome}
 use Rattle.run_steps.specs.Steps.{IsRefusal, IsReading, AfterReading}
 use Rattle.fdt_source.specs.Messages.{syntax_message}
-use Rattle.fdt_source.specs.Source.{IsSource, DepartsAt}
+use Rattle.source_text.specs.Source.{IsSource, DepartsAt}
 
 -- the longest text that is read, in bytes
 abbrev pub text_limit : ℕ

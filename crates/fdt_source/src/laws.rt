@@ -1,19 +1,9 @@
 // Laws over the definitions. Each is the contract of a function that does nothing.
 ghost use Rattle.fdt_source.specs.Laws.{IsOneOutcome};
-ghost use Rattle.fdt_source.specs.ReadLaws.{IsOne, IsReadBack};
+
+pub use source_text::laws::{one_source, printed_is_read};
 
 /// The words and the files call for one outcome: a refusal excludes a build, and two refusals have one status and one line.
 pub fn one_outcome()
     ensures { IsOneOutcome }
-{}
-
-/// A text says one tree and one list of reservations, if any.
-pub fn one_source()
-    ensures { IsOne }
-{}
-
-/// What is printed says what it was printed from: for a tree with an unnamed root, names in their sets, values of bytes and a
-/// depth of at most 32, and reservations of 64-bit numbers without a pair of zeros.
-pub fn printed_is_read()
-    ensures { IsReadBack }
 {}

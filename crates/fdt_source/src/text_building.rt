@@ -7,16 +7,15 @@ ghost use Rattle.run_steps.specs.PrivateOutcomes.{outcome_of};
 ghost use Rattle.run_steps.specs.Steps.{IsWriting, nothing};
 ghost use Rattle.run_steps.specs.Stops.{IsDue, IsOwnDue};
 ghost use Rattle.fdt_source.specs.Job.{tree_of, IsBuilding};
-ghost use Rattle.fdt_source.specs.Source.{IsSource};
+ghost use Rattle.source_text.specs.Source.{IsSource};
 ghost use Rattle.fdt_source.specs.Texts.{AfterText, AfterTextFile, IsTextFile};
 ghost use Rattle.fdt_source.specs.PrivateMeant.{source_tree};
 
-use crate::fault::SourceFault;
 use crate::messages::{make_syntax_message, make_too_long_message};
-use crate::read::{Source, read_source};
 use fdt_write::{WriteFault, write};
 use outside::{Files, Status};
 use run_steps::{Build, Output, Stop, read_file};
+use source_text::{Source, SourceFault, read_source};
 use std::alloc::{AllocError, Global};
 use texts::{Bytes, List, Text};
 

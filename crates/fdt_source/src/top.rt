@@ -7,8 +7,8 @@ ghost use Rattle.run_steps.specs.Laws.{AnswersUnless};
 ghost use Rattle.run_steps.specs.Trees.{IsTreeFile};
 ghost use Rattle.fdt_source.specs.Words.{Print, Build, asked};
 ghost use Rattle.fdt_source.specs.Messages.{line};
-ghost use Rattle.fdt_source.specs.BadNames.{first_bad};
-ghost use Rattle.fdt_source.specs.Printed.{printed};
+ghost use Rattle.source_text.specs.BadNames.{first_bad};
+ghost use Rattle.source_text.specs.Printed.{printed};
 ghost use Rattle.fdt_source.specs.Texts.{IsTextFile};
 ghost use Rattle.fdt_source.specs.Job.{tree_of, IsJob, CallsFor};
 

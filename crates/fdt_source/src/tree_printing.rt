@@ -7,11 +7,10 @@ ghost use Rattle.run_steps.specs.Stops.{IsDue, IsOwnDue};
 ghost use Rattle.run_steps.specs.Trees.{flat_tree, AfterTreeFile};
 ghost use Rattle.fdt_source.specs.Job.{IsPrinting};
 
-use crate::fault::PrintFault;
 use crate::messages::make_bad_name_message;
-use crate::print::print_source;
 use outside::{Files, Status};
 use run_steps::{Build, Stop, TreeFile, read_tree};
+use source_text::{PrintFault, print_source};
 use std::alloc::Global;
 use texts::{Bytes, List};
 

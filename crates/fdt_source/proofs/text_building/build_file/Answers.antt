@@ -4,7 +4,8 @@ use Rattle.run_steps.proofs.Due.{due_here, stopped_anyway, built_for}
 use Rattle.fdt_source.specs.PrivateMeant.{source_tree}
 use Rattle.fdt_source.specs.Job.{IsBuilding}
 use Rattle.fdt_source.specs.Texts.{AfterTextFile}
-use Rattle.fdt_source.proofs.TextSteps.{text_file_step, no_pair_ends}
+use Rattle.source_text.proofs.SaidReserves.{no_pair_ends}
+use Rattle.fdt_source.proofs.TextSteps.{text_file_step}
 use Rattle.fdt_source.proofs.text_building.build_file.Goals as goal
 
 pub returns-in_err-source-clause-stopped : goal.returns-in_err-source-clause-stopped

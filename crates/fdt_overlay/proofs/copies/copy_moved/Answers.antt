@@ -1,5 +1,0 @@
-use Rattle.fdt_overlay.proofs.HighestLemmas.{can-move}
-use Rattle.fdt_overlay.proofs.copies.copy_moved.Goals as goal
-
-pub copy_whole-requires : goal.copy_whole-requires
-copy_whole-requires c = can-move c.args.source.now c.args.by c.numbering.ensures c.requires

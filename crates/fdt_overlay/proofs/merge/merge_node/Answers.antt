@@ -1,7 +1,0 @@
-use Rattle.fdt_tree.specs.Document.{properties_of, children_of}
-use Rattle.fdt_overlay.proofs.MergeLemmas.{Changes-merged-by}
-use Rattle.fdt_overlay.proofs.merge.merge_node.Goals as goal
-
-pub returns : goal.returns
-returns c =
-    Changes-merged-by c.merge_children.result c.args.tree.now c.set_properties.new.tree c.merge_children.new.tree c.args.target (properties_of c.args.overlay.now c.args.node) (children_of c.args.overlay.now c.args.node) c.requires.target_live c.in_ok-set_properties.ensures c.merge_children.ensures

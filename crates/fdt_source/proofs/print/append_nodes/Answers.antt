@@ -1,6 +1,0 @@
-use Rattle.fdt_source.proofs.Lined.{first-token}
-use Rattle.fdt_source.proofs.print.append_nodes.Goals as goal
-
-pub loop-token-init : goal.loop-token-init
-loop-token-init c =
-    first-token c.args.tree.now.tree c.args.out.now c.new-tabs.result c.into_iter-token-iterator.result c.new-tabs.ensures (cc c.new-token-items.ensures)

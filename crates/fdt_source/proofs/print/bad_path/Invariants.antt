@@ -1,8 +1,0 @@
-use Rattle.std.proofs.Common.{◌≡◌}
-use Rattle.fdt_source.specs.BadNames.{first_bad}
-use Rattle.fdt_source.proofs.Bad.{first_bad_token}
-use Rattle.fdt_source.proofs.print.bad_path.Given as goal
-
--- The first fault of the tree is the first of the tokens that are left.
-abbrev pub invariant-loop-token : goal.invariant-loop-token
-invariant-loop-token l = first_bad_token l.nodes l.token-iterator ≡ first_bad l.tree.tree

@@ -1,0 +1,9 @@
+pub mod Applied
+pub mod Merge
+pub mod PrivateCopies
+pub mod PrivateGrown
+pub mod Resolve
+pub mod Shift
+pub mod Turns
+pub mod Values
+pub mod Words

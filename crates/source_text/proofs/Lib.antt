@@ -1,0 +1,27 @@
+pub mod Rows
+pub mod Printing
+pub mod Lined
+pub mod Bad
+pub mod OpenLemmas
+pub mod Taken
+pub mod Running
+pub mod Blanks
+pub mod Stops
+pub mod Numbers
+pub mod ValueLemmas
+pub mod Nodes
+pub mod Completeness
+pub mod OneTree
+pub mod Only
+pub mod Departures
+pub mod SaidReserves
+pub mod Peeling
+pub mod ValuesBack
+pub mod NodesBack
+pub mod Soundness
+pub mod Alive
+pub mod Decided
+pub mod Grown
+pub mod ValuesPrinted
+pub mod PrintedBack
+mod Least
