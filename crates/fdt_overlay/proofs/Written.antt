@@ -1,13 +1,12 @@
 -- What a run that ends with status 0 has written.
-use Rattle.std.proofs.Common.{◌≡◌, ◌≤◌, length, sym, subst, refl, ℕ, List, [], ◌∷◌, Bool, true, false, cond, Option, Some, inl, inr, arith}
+use Rattle.std.proofs.Common.{◌≡◌, ◌≤◌, length, sym, subst, ℕ, List, [], ◌∷◌, Option, Some, inl, inr, arith}
 use Rattle.std.specs.Prelude.{◌⊎◌, IsTrue, not}
 use Rattle.std.specs.List.{list_all}
-use Rattle.std.proofs.lemmas.List.Sums.{take_while-cons}
 use Rattle.outside.specs.Outside.{File, Rose}
 use Rattle.fdt_tree.specs.Tree.{Tree}
 use Rattle.fdt_tree.specs.declared.reserve.Reserve.{Reserve}
-use Rattle.fdt_read.specs.Reservations.{pairs, reservations_block, before_last, is_last_pair}
-use Rattle.fdt_read.specs.Spells.{Spells}
+use Rattle.fdt_read.specs.Reservations.{is_last_pair}
+use Rattle.fdt_read.proofs.NoLastPair.{no_last_pairs}
 use Rattle.fdt_write.specs.Flattened.{length_limit}
 use Rattle.run_steps.specs.Endings.{Outcome, Builds, TakesBytes}
 use Rattle.run_steps.specs.Steps.{IsWriting}
@@ -17,23 +16,6 @@ use Rattle.fdt_overlay.specs.Overlays.{Made, AfterAll, IsMade}
 use Rattle.fdt_overlay.specs.PrivateSteps.{IsFound}
 use Rattle.fdt_overlay.specs.Job.{bytes_of, IsOutput, IsAskedJob}
 use Rattle.fdt_overlay.proofs.OverlaySteps.{all_step, is_made}
-
--- a pair that does not end the list, before others
-one_more : (reserve : Reserve) (later : List Reserve) (test : Bool) → not (is_last_pair reserve) ≡ test → IsTrue (list_all (λ reserve. not (is_last_pair reserve)) later)
-    → IsTrue (list_all (λ reserve. not (is_last_pair reserve)) (cond test (reserve ∷ later) []))
-one_more reserve later true e ok = rw e ok
-one_more reserve later false e ok = refl
-
--- the pairs before the one that ends the list do not end it
-all_before_last : (reserves : List Reserve) → IsTrue (list_all (λ reserve. not (is_last_pair reserve)) (before_last reserves))
-all_before_last [] = refl
-all_before_last (reserve ∷ later) =
-    rw (take_while-cons (λ (reserve : Reserve). not (is_last_pair reserve)) reserve later) (one_more reserve (before_last later) (not (is_last_pair reserve)) refl (all_before_last later))
-
--- no reservation of a file that was read ends the list
-no_last_pairs : (bytes : List ℕ) (reserves : List Reserve) (boot : ℕ) (root : Tree) → Spells bytes reserves boot root → IsTrue (list_all (λ reserve. not (is_last_pair reserve)) reserves)
-no_last_pairs bytes reserves boot root spelled =
-    subst (λ (read : List Reserve). IsTrue (list_all (λ reserve. not (is_last_pair reserve)) read)) spelled.reserved (all_before_last (pairs (reservations_block bytes)))
 
 -- nor does one of what was made
 pub none_last : (told : Option (List File)) (asked : Asked) (made : Made) → IsMade told asked made → IsTrue (list_all (λ reserve. not (is_last_pair reserve)) made.reserves)

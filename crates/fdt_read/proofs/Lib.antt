@@ -10,6 +10,7 @@ pub mod NameLengths
 pub mod Turns
 pub mod Texts
 pub mod Reserved
+pub mod NoLastPair
 pub mod OneTree
 pub mod Passing
 pub mod Accepted

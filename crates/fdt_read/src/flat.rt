@@ -1,8 +1,9 @@
 // A flattened device tree as a whole.
-ghost use Rattle.std.specs.Prelude.{◌≡◌, ◌⊎◌, true, false, OnOk, IfOk, IfErr, Some, None, []};
+ghost use Rattle.std.specs.Prelude.{◌≡◌, ◌⊎◌, true, false, not, OnOk, IfOk, IfErr, IsTrue, Some, None, []};
+ghost use Rattle.std.specs.List.{list_all};
 ghost use Rattle.fdt_read.specs.Built.{IsLaidOut, IsWhole};
 ghost use Rattle.fdt_read.specs.Refusals.{refusal, first_fault, is_reservations_fault};
-ghost use Rattle.fdt_read.specs.Reservations.{reservations};
+ghost use Rattle.fdt_read.specs.Reservations.{is_last_pair, reservations};
 ghost use Rattle.fdt_read.specs.Spelling.{without_offsets};
 ghost use Rattle.fdt_read.specs.Laws.{SpellsNone};
 ghost use Rattle.fdt_read.specs.Spells.{Spells};
@@ -100,9 +101,10 @@ fn flat_of(alloc: Global, bytes: &[u8]) -> Result<Flat, FdtFault>
 
 /// Reads a flattened device tree (Devicetree Specification 0.4, chapter 5): answers what it says, or its first fault, and
 /// then it says nothing. It may have NOPs, blocks in any order, bytes between and past its blocks, and a name of its
-/// root, which is dropped.
+/// root, which is dropped. No reservation that is read is a pair of zeros.
 pub fn read(alloc: Global, bytes: &[u8]) -> Result<Flat, FdtFault>
     ensures read { IfOk result (λ flat. Spells bytes.now flat.reserves flat.boot flat.tree.tree) }
+    ensures reserved { IfOk result (λ flat. IsTrue (list_all (λ reserve. not (is_last_pair reserve)) flat.reserves)) }
     ensures refused { IfErr result (λ fault. (fault ≡ FdtFault.Memory) ⊎ (refusal bytes.now ≡ Some fault)) }
     ensures nothing { IfErr result (λ fault. (fault ≡ FdtFault.Memory) ⊎ SpellsNone bytes.now) }
 {

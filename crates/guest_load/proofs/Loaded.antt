@@ -1,13 +1,6 @@
 -- What a run that ends with status 0 has written.
-use Rattle.std.proofs.Common.{◌≡◌, subst, refl, ℕ, List, [], ◌∷◌, Bool, true, false, cond, Option, Some, None, inl, inr}
-use Rattle.std.specs.Prelude.{IsTrue, not}
-use Rattle.std.specs.List.{list_all}
-use Rattle.std.proofs.lemmas.List.Sums.{take_while-cons}
+use Rattle.std.proofs.Common.{◌≡◌, subst, refl, ℕ, List, [], ◌∷◌, Option, Some, None, inl, inr}
 use Rattle.outside.specs.Outside.{File}
-use Rattle.fdt_tree.specs.Tree.{Tree}
-use Rattle.fdt_tree.specs.declared.reserve.Reserve.{Reserve}
-use Rattle.fdt_read.specs.Reservations.{pairs, reservations_block, before_last, is_last_pair}
-use Rattle.fdt_read.specs.Spells.{Spells}
 use Rattle.run_steps.specs.Endings.{Builds}
 use Rattle.run_steps.proofs.Step.{found_by}
 use Rattle.guest_load.specs.declared.places.LoadPart.{LoadPart}
@@ -18,23 +11,6 @@ use Rattle.guest_load.specs.Parts.{Parts, AfterParts, AreParts}
 use Rattle.guest_load.specs.Job.{tree_of, plan_of, OnRoom, IsLoading, IsAskedJob}
 use Rattle.guest_load.proofs.PartSteps.{parts_step}
 use Rattle.guest_load.proofs.PlaceLemmas.{places_fit}
-
--- a pair that does not end the list, before others
-one_more : (reserve : Reserve) (later : List Reserve) (test : Bool) → not (is_last_pair reserve) ≡ test → IsTrue (list_all (λ reserve. not (is_last_pair reserve)) later)
-    → IsTrue (list_all (λ reserve. not (is_last_pair reserve)) (cond test (reserve ∷ later) []))
-one_more reserve later true e ok = rw e ok
-one_more reserve later false e ok = refl
-
--- the pairs before the one that ends the list do not end it
-all_before_last : (reserves : List Reserve) → IsTrue (list_all (λ reserve. not (is_last_pair reserve)) (before_last reserves))
-all_before_last [] = refl
-all_before_last (reserve ∷ later) =
-    rw (take_while-cons (λ (reserve : Reserve). not (is_last_pair reserve)) reserve later) (one_more reserve (before_last later) (not (is_last_pair reserve)) refl (all_before_last later))
-
--- no reservation of a file that was read ends the list
-pub no_last_pairs : (bytes : List ℕ) (reserves : List Reserve) (boot : ℕ) (root : Tree) → Spells bytes reserves boot root → IsTrue (list_all (λ reserve. not (is_last_pair reserve)) reserves)
-no_last_pairs bytes reserves boot root spelled =
-    subst (λ (read : List Reserve). IsTrue (list_all (λ reserve. not (is_last_pair reserve)) read)) spelled.reserved (all_before_last (pairs (reservations_block bytes)))
 
 module _ (out : List ℕ) (parts : Parts) (outputs : List File) (said : List ℕ) where
   by_room : (found : Option LoadPart) → OnRoom out parts found (Builds outputs said) → (found ≡ None) × (outputs ≡ (out, tree_of parts) ∷ []) × (said ≡ report (plan_of parts))

@@ -1,10 +1,10 @@
 use Rattle.std.proofs.Common.{rules, ◌≡◌, Err}
+use Rattle.fdt_read.proofs.NoLastPair.{no_last_pairs}
 use Rattle.run_steps.specs.Steps.{nothing}
 use Rattle.run_steps.specs.Trees.{flat_tree, AfterTreeFile}
 use Rattle.run_steps.proofs.Due.{due_here, stopped_anyway, built_for}
 use Rattle.run_steps.proofs.ReadingSteps.{tree_file_step}
 use Rattle.fdt_source.specs.Job.{IsPrinting}
-use Rattle.fdt_source.proofs.Shown.{no_last_pairs}
 use Rattle.fdt_source.proofs.tree_printing.print_file.Goals as goal
 
 pub returns-in_err-tree-clause-stopped : goal.returns-in_err-tree-clause-stopped

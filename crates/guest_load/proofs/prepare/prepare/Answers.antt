@@ -1,10 +1,10 @@
 use Rattle.std.proofs.Common.{rules, ◌≡◌, Err}
+use Rattle.fdt_read.proofs.NoLastPair.{no_last_pairs}
 use Rattle.run_steps.specs.Steps.{nothing}
 use Rattle.run_steps.proofs.Due.{due_here, stopped_anyway, built_for}
 use Rattle.guest_load.specs.Job.{IsLoading}
 use Rattle.guest_load.specs.PrivateMeant.{meant, meant_parts}
 use Rattle.guest_load.specs.Parts.{AfterParts}
-use Rattle.guest_load.proofs.Loaded.{no_last_pairs}
 use Rattle.guest_load.proofs.PartSteps.{parts_step}
 use Rattle.guest_load.proofs.prepare.prepare.Goals as goal
 
