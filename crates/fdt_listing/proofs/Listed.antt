@@ -5,8 +5,9 @@ use Rattle.std.proofs.lemmas.List.{append-nil}
 use Rattle.fdt_tree.specs.Tree.{Bytes, Property, Trees, none, tree, Tree}
 use Rattle.fdt_read.specs.Tokens.{Token, end_node, end}
 use Rattle.fdt_read.specs.Spelling.{spelled_properties, spelled, spelled_whole}
-use Rattle.fdt_listing.specs.Listing.{line, property_line, path_below, trees_lines, tree_lines}
-use Rattle.fdt_listing.specs.PrivateOpened.{shown, opened_after, token_line}
+use Rattle.fdt_write.specs.Opened.{path_below, shown, opened_after}
+use Rattle.fdt_listing.specs.Listing.{line, property_line, trees_lines, tree_lines}
+use Rattle.fdt_listing.specs.PrivateOpened.{token_line}
 
 -- The lines of tokens, where a walk is in these nodes.
 abbrev pub tokens_lines : List Bytes → List Token → Bytes

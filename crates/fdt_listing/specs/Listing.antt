@@ -3,6 +3,7 @@ use Rattle.std.specs.Prelude.{◌==◌, List, [], ◌∷◌, ◌++◌, if◌then
 use Rattle.texts.specs.NumberTexts.{hexadecimal}
 use Rattle.fdt_tree.specs.Tree.{Bytes, Property, Trees, none, tree, Tree}
 use Rattle.fdt_tree.specs.declared.reserve.Reserve.{Reserve}
+use Rattle.fdt_write.specs.Opened.{path_below}
 use Rattle.hex.specs.Hex.{encode_lower}
 
 -- A line: a text and the line feed that ends it.
@@ -25,10 +26,6 @@ property_line property = line (codes "  " ++ property.0 ++ codes " " ++ value_te
 -- The lines of a node without its children: its path, and a line for each of its properties.
 abbrev pub node_lines : Bytes → List Property → Bytes
 node_lines path properties = line path ++ flat_map property_line properties
-
--- The path of a node (Devicetree Specification 0.4, 2.2.3): that of the node above it, `/`, and its name.
-abbrev pub path_below : Bytes → Bytes → Bytes
-path_below above name = above ++ codes "/" ++ name
 
 -- The lines of trees below a path: those of the first node, those of its children, and those of the trees after it.
 abbrev pub trees_lines : Bytes → Trees → Bytes

@@ -1,29 +1,9 @@
--- For proofs and private contracts alone: the nodes that a walk over the tokens of a tree is in, by their paths, the innermost first.
-use Rattle.std.specs.Prelude.{ℕ, List, [], ◌∷◌, Some, take, drop, codes}
+-- For proofs and private contracts alone: the lines of the tokens of a tree.
+use Rattle.std.specs.Prelude.{List, [], Some}
 use Rattle.fdt_tree.specs.Tree.{Bytes}
-use Rattle.fdt_read.specs.Tokens.{Token, begin_node, end_node, property}
-use Rattle.fdt_listing.specs.Listing.{line, property_line, path_below}
-
--- The paths of nodes inside each other, the innermost first: that of the innermost node, and from it outwards the first bytes of each path, as many as its length says.
-abbrev pub paths : Bytes → List ℕ → List Bytes
-paths path [] = []
-paths path (above ∷ lengths) = path ∷ paths (take above path) lengths
-
--- The path of a node that begins inside these. The root begins inside none, and its path is empty.
-abbrev pub path_inside : List Bytes → Bytes → Bytes
-path_inside [] name = []
-path_inside (above ∷ others) name = path_below above name
-
--- A path as it is shown: the root's, which is empty, as `/`.
-abbrev pub shown : Bytes → Bytes
-shown [] = codes "/"
-shown (byte ∷ path) = byte ∷ path
-
--- The nodes that a walk is in after a token.
-abbrev pub opened_after : List Bytes → Token → List Bytes
-opened_after opened (begin_node name) = path_inside opened name ∷ opened
-opened_after opened end_node = drop 1 opened
-opened_after opened _ = opened
+use Rattle.fdt_read.specs.Tokens.{Token, begin_node, property}
+use Rattle.fdt_write.specs.Opened.{path_inside, shown}
+use Rattle.fdt_listing.specs.Listing.{line, property_line}
 
 -- The line that a token adds: that of a node that begins, or that of a property.
 abbrev pub token_line : List Bytes → Token → Bytes

@@ -3,6 +3,5 @@
 
 mod lines;
 mod listing;
-mod opened;
 
 pub use listing::list;

@@ -1,13 +1,13 @@
 // The listing of a tree, token by token.
 ghost use Rattle.std.specs.Prelude.{◌≡◌, ◌++◌, flat_map, IfOk, OnOk};
 ghost use Rattle.fdt_write.specs.Meaning.{meaning};
+ghost use Rattle.fdt_write.specs.Opened.{opened_after};
 ghost use Rattle.fdt_listing.specs.Listing.{reserve_line, tree_lines, listing};
-ghost use Rattle.fdt_listing.specs.PrivateOpened.{opened_after, token_line};
+ghost use Rattle.fdt_listing.specs.PrivateOpened.{token_line};
 
 use crate::lines::{append_line, append_property, append_reserve};
-use crate::opened::OpenNodes;
 use fdt_tree::{Reserve, Tree};
-use fdt_write::{TreeToken, TreeTokens};
+use fdt_write::{OpenNodes, TreeToken, TreeTokens};
 use std::alloc::{AllocError, Global};
 use texts::Bytes;
 

@@ -8,6 +8,7 @@ pub mod HeaderRead
 pub mod ReadBack
 mod Instances
 pub mod TokenLemmas
+pub mod OpenLemmas
 pub mod NamesLemmas
 pub mod UsedLemmas
 pub mod SizeLemmas

@@ -5,8 +5,7 @@ use Rattle.std.proofs.Math.Seq.{take-append_seam}
 use Rattle.std.proofs.lemmas.Bool.{eqb-true}
 use Rattle.std.proofs.lemmas.List.{reverse-append, length-reverse}
 use Rattle.fdt_tree.specs.Tree.{Bytes}
-use Rattle.source_text.specs.BadNames.{path_below}
-use Rattle.source_text.specs.PrivateOpened.{paths, path_inside, shown}
+use Rattle.fdt_write.specs.Opened.{path_below, paths, path_inside, shown}
 
 -- A path of no bytes is shown as `/`.
 pub shown-root : (opened others : List Bytes) (held path : Bytes) (lengths : List ℕ) → opened ≡ paths held lengths → opened ≡ path ∷ others → (length held == 0) ≡ true → codes "/" ≡ shown path

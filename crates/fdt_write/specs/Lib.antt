@@ -3,6 +3,7 @@ pub mod Flattened
 pub mod Laws
 pub mod Left
 pub mod Meaning
+pub mod Opened
 pub mod PrivateHeld
 pub mod PrivateNames
 pub mod PrivateUsed

@@ -6,9 +6,11 @@ mod fault;
 mod flat;
 pub mod laws;
 mod names;
+mod open_nodes;
 mod sizes;
 mod tree_tokens;
 
 pub use fault::WriteFault;
 pub use flat::write;
+pub use open_nodes::OpenNodes;
 pub use tree_tokens::{TreeToken, TreeTokens};

@@ -1,8 +1,7 @@
 // The nodes that a walk over a tree is in.
 ghost use Rattle.std.specs.Prelude.{◌≡◌, ◌==◌, length, ◌∷◌, List, [], drop, OnOk};
 ghost use Rattle.fdt_tree.specs.Tree.{Bytes};
-ghost use Rattle.source_text.specs.BadNames.{path_below};
-ghost use Rattle.source_text.specs.PrivateOpened.{path_inside, shown};
+ghost use Rattle.fdt_write.specs.Opened.{path_below, path_inside, shown};
 
 use std::alloc::{AllocError, Global};
 use std::marker::Model;
@@ -10,7 +9,7 @@ use std::marker::Model;
 /// The nodes that a walk over a tree is in, which contracts see as their paths, the innermost first. The root's path is
 /// empty.
 #[derive(Drop)]
-pub(crate) struct OpenNodes {
+pub struct OpenNodes {
     /// The path of the innermost node.
     path: Vec<u8>,
     /// For each node, the outermost first, how many bytes of its path are that of the node above.
@@ -19,7 +18,7 @@ pub(crate) struct OpenNodes {
 
 impl Model for OpenNodes {
     ghost use Rattle.std.specs.Prelude.{ℕ, List, reverse};
-    ghost use Rattle.source_text.specs.PrivateOpened.{paths};
+    ghost use Rattle.fdt_write.specs.Opened.{paths};
 
     ghost Value = { List (List ℕ) };
 
@@ -28,7 +27,7 @@ impl Model for OpenNodes {
 
 impl OpenNodes {
     /// No nodes. Takes no memory.
-    pub(crate) fn new(alloc: Global) -> OpenNodes
+    pub fn new(alloc: Global) -> OpenNodes
         ensures { result ≡ [] }
     {
         OpenNodes {
@@ -39,7 +38,7 @@ impl OpenNodes {
 
     /// Goes into a node of this name inside the innermost one, or, where there is none, into the root, whatever its name.
     /// After want of memory the nodes are no matter.
-    pub(crate) fn enter(&mut self, name: &[u8]) -> Result<(), AllocError>
+    pub fn enter(&mut self, name: &[u8]) -> Result<(), AllocError>
         ensures { OnOk result (self.new ≡ path_inside self.old name.now ∷ self.old) }
     {
         let above = self.path.len();
@@ -54,7 +53,7 @@ impl OpenNodes {
     }
 
     /// Leaves the innermost node, if there is one.
-    pub(crate) fn leave(&mut self)
+    pub fn leave(&mut self)
         ensures { self.new ≡ drop 1 self.old }
     {
         if let Some(above) = self.lengths.pop() {
@@ -63,14 +62,14 @@ impl OpenNodes {
     }
 
     /// Whether the walk is in no node.
-    pub(crate) fn is_empty(&self) -> bool
+    pub fn is_empty(&self) -> bool
         ensures { result ≡ (length self.now == 0) }
     {
         self.lengths.is_empty()
     }
 
     /// The path of the innermost node, as it is shown: `/` for the root.
-    pub(crate) fn shown(&self) -> &[u8]
+    pub fn shown(&self) -> &[u8]
         ensures { (path : Bytes) (others : List Bytes) → self.now ≡ path ∷ others → result.now ≡ shown path }
     {
         let path = self.path.as_slice();

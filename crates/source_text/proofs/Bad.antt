@@ -5,8 +5,9 @@ use Rattle.std.specs.List.{list_any}
 use Rattle.fdt_tree.specs.Tree.{Bytes, Property, Trees, none, tree, Tree}
 use Rattle.fdt_read.specs.Tokens.{Token, begin_node, property, nop, end_node, end, broken}
 use Rattle.fdt_read.specs.Spelling.{spelled_properties, spelled, spelled_whole}
-use Rattle.source_text.specs.BadNames.{is_bad_node, is_bad_property, path_below, if_bad, bad_below, first_bad}
-use Rattle.source_text.specs.PrivateOpened.{shown, path_inside, opened_after, is_bad_token, token_path}
+use Rattle.fdt_write.specs.Opened.{path_below, shown, path_inside, opened_after}
+use Rattle.source_text.specs.BadNames.{is_bad_node, is_bad_property, if_bad, bad_below, first_bad}
+use Rattle.source_text.specs.PrivateOpened.{is_bad_token, token_path}
 
 -- The path of the first token at fault, where a walk is in these nodes.
 abbrev pub first_bad_token : List Bytes → List Token → Option Bytes

@@ -2,7 +2,6 @@ pub mod Rows
 pub mod Printing
 pub mod Lined
 pub mod Bad
-pub mod OpenLemmas
 pub mod Taken
 pub mod Running
 pub mod Blanks

@@ -2,6 +2,7 @@
 use Rattle.std.specs.Prelude.{Bool, ◌||◌, not, List, [], ◌∷◌, ◌++◌, if◌then◌else◌, Option, slice_get, codes}
 use Rattle.std.specs.List.{list_all, list_any}
 use Rattle.fdt_tree.specs.Tree.{Bytes, Property, Trees, none, tree, Tree}
+use Rattle.fdt_write.specs.Opened.{path_below}
 use Rattle.source_text.specs.Characters.{is_property_byte, is_node_byte}
 
 -- A node's name has a character outside the set.
@@ -11,10 +12,6 @@ is_bad_node name = not (list_all is_node_byte name)
 -- A property's name has a character outside the set.
 abbrev pub is_bad_property : Property → Bool
 is_bad_property property = not (list_all is_property_byte property.0)
-
--- The path of a node (Devicetree Specification 0.4, 2.2.3) below another, whose path is empty where it is the root.
-abbrev pub path_below : Bytes → Bytes → Bytes
-path_below above name = above ++ codes "/" ++ name
 
 -- The path of a node, where it is at fault.
 abbrev pub if_bad : Bool → Bytes → List Bytes

@@ -7,7 +7,6 @@ mod fault;
 mod growing;
 pub mod laws;
 mod lines;
-mod opened;
 mod print;
 mod read;
 mod reading;

@@ -4,17 +4,17 @@ ghost use Rattle.std.specs.List.{list_all};
 ghost use Rattle.fdt_read.specs.Reservations.{is_last_pair};
 ghost use Rattle.fdt_tree.specs.Tree as trees;
 ghost use Rattle.fdt_write.specs.Meaning.{meaning};
+ghost use Rattle.fdt_write.specs.Opened.{opened_after};
 ghost use Rattle.source_text.specs.Printed.{tree_lines, printed};
 ghost use Rattle.source_text.specs.BadNames.{first_bad};
-ghost use Rattle.source_text.specs.PrivateOpened.{opened_after, is_bad_token, token_path};
+ghost use Rattle.source_text.specs.PrivateOpened.{is_bad_token, token_path};
 
 use crate::characters::{is_node_name, is_property_name};
 use crate::fault::PrintFault;
 use crate::lines::{append_reserves, append_token};
-use crate::opened::OpenNodes;
 use crate::tabs::Tabs;
 use fdt_tree::{Reserve, Tree};
-use fdt_write::{TreeToken, TreeTokens};
+use fdt_write::{OpenNodes, TreeToken, TreeTokens};
 use std::alloc::{AllocError, Global};
 use texts::Bytes;
 

@@ -1,8 +1,8 @@
 use Rattle.std.proofs.Common.{◌≡◌, ◌==◌, ℕ, List, [], ◌∷◌, ◌++◌, length, ap, sym, ◌∙◌}
-use Rattle.source_text.specs.PrivateOpened.{path_inside}
-use Rattle.source_text.proofs.OpenLemmas.{root-opened, node-opened}
-use Rattle.source_text.proofs.opened.OpenNodes.enter.Goals as goal
-use Rattle.source_text.proofs.opened.OpenNodes.enter.Goals.{then-is_empty, else-is_empty+in_ok-append_name}
+use Rattle.fdt_write.specs.Opened.{path_inside}
+use Rattle.fdt_write.proofs.OpenLemmas.{root-opened, node-opened}
+use Rattle.fdt_write.proofs.open_nodes.OpenNodes.enter.Goals as goal
+use Rattle.fdt_write.proofs.open_nodes.OpenNodes.enter.Goals.{then-is_empty, else-is_empty+in_ok-append_name}
 
 pub returns : goal.returns
 returns c =

@@ -1,6 +1,6 @@
 use Rattle.std.proofs.Common.{◌==◌, ◌∙◌, ap, ℕ, List, length}
-use Rattle.source_text.proofs.OpenLemmas.{no-paths}
-use Rattle.source_text.proofs.opened.OpenNodes.is_empty.Goals as goal
+use Rattle.fdt_write.proofs.OpenLemmas.{no-paths}
+use Rattle.fdt_write.proofs.open_nodes.OpenNodes.is_empty.Goals as goal
 
 pub returns : goal.returns
 returns c =

@@ -1,6 +1,6 @@
 use Rattle.std.proofs.Common.{reverse, sym, ◌∙◌}
-use Rattle.source_text.proofs.OpenLemmas.{shown-root, shown-path}
-use Rattle.source_text.proofs.opened.OpenNodes.shown.Goals as goal
+use Rattle.fdt_write.proofs.OpenLemmas.{shown-root, shown-path}
+use Rattle.fdt_write.proofs.open_nodes.OpenNodes.shown.Goals as goal
 
 pub returns-then-is_empty : goal.returns-then-is_empty
 returns-then-is_empty c = λ path others e.
