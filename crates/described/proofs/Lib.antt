@@ -2,3 +2,4 @@ pub mod RegionLemmas
 pub mod RunLemmas
 pub mod Instances
 pub mod MapInstances
+pub mod Soundness

@@ -10,3 +10,7 @@ pub mod ChildMapLemmas
 pub mod PathSteps
 pub mod Instances
 pub mod Searches
+pub mod Siblings
+pub mod ChildWalks
+pub mod NumberTurns
+pub mod PropertyNames

@@ -66,18 +66,18 @@ pub read_on : (done : List Token) (t : Tree) (p : Place) (x : Token) → InNode 
 read_on done t p x i c =
     let o = opened_first t p in plain_last done (begin_node t.name) o.0 x c (i.read ∙ o.1) ∙ ap (λ z. z ++ x ∷ []) i.read
 
-counted : (o : Option Tree) (k : ℕ) → unwrap_or (option_map (λ n. count n.children) o) 0 ≡ suc k → (w : Tree) × (o ≡ Some w) × (count w.children ≡ suc k)
+pub counted : (o : Option Tree) (k : ℕ) → unwrap_or (option_map (λ n. count n.children) o) 0 ≡ suc k → (w : Tree) × (o ≡ Some w) × (count w.children ≡ suc k)
 counted None k e = absurd (cc)
 counted (Some w) k e = (w, refl, e)
 
-by_summary : (o : Option Tree) (w : Tree) → option_map summary o ≡ Some (summary w) → unwrap_or (option_map (λ n. count n.children) o) 0 ≡ count w.children
+pub by_summary : (o : Option Tree) (w : Tree) → option_map summary o ≡ Some (summary w) → unwrap_or (option_map (λ n. count n.children) o) 0 ≡ count w.children
 by_summary None w e = absurd (cc)
 by_summary (Some u) w e = let h : summary u ≡ summary w = cc in ap (λ (z : Bytes × (List Property × ℕ)). z.1.1) h
 
 pub same_some : {A : Type 0} (a b : A) → Some a ≡ Some b → a ≡ b
 same_some a b e = cc
 
-split_last : (p q : Place) (c k : ℕ) (r : Place) → p ++ c ∷ [] ≡ q ++ k ∷ r → (p ≡ q) × (c ≡ k) ⊎ (s : Place) × (p ≡ q ++ k ∷ s)
+pub split_last : (p q : Place) (c k : ℕ) (r : Place) → p ++ c ∷ [] ≡ q ++ k ∷ r → (p ≡ q) × (c ≡ k) ⊎ (s : Place) × (p ≡ q ++ k ∷ s)
 split_last [] [] c k r e = inl (refl, cc)
 split_last [] (x ∷ q) c k r e = absurd (omega (arith, ap length e, length-append q (k ∷ r)))
 split_last (y ∷ p) [] c k r e = inr (p, cc)
@@ -89,7 +89,7 @@ split_last (y ∷ p) (x ∷ q) c k r e =
     onward h (inr g) = inr (g.0, ap (λ z. z ∷ p) h ∙ ap (λ z. x ∷ z) g.1)
 
 -- The number of children of a node that is there stays, but for the node that is changed.
-count_kept : (f : Tree → Tree) → Extends f → (t : Tree) (p q : Place) (k : ℕ) → p ≢ q → children_at t q ≡ suc k → children_at (edit f t p) q ≡ suc k
+pub count_kept : (f : Tree → Tree) → Extends f → (t : Tree) (p q : Place) (k : ℕ) → p ≢ q → children_at t q ≡ suc k → children_at (edit f t p) q ≡ suc k
 count_kept f x t p q k ne e =
     let w = counted (at t q) k e in by_summary (at (edit f t p) q) w.0 (at-edit_other f x t p q w.0 ne w.1) ∙ w.2
 

@@ -31,7 +31,7 @@ no_tokens [] e = refl
 no_tokens (begin_node n ∷ ts) e = absurd (cc)
 no_tokens (t ∷ ts) e = e
 
-no_split : (q : Place) (k : ℕ) (r : Place) → [] ≡ q ++ k ∷ r → ⊥
+pub no_split : (q : Place) (k : ℕ) (r : Place) → [] ≡ q ++ k ∷ r → ⊥
 no_split q k r e = omega (arith, ap length e, length-append q (k ∷ r))
 
 root_in : (done : List Token) (t : Tree) (m : Bytes) → plain done ≡ [] → count_by is_begin done ≡ 0 → count_by is_end_node done ≡ 0 → t ≡ empty.tree → InNode (done ++ begin_node m ∷ []) t []

@@ -1,5 +1,5 @@
 -- Names that are added, and their offsets.
-use Rattle.std.proofs.Common.{◌≡◌, ℕ, ◌+◌, Bool, true, false, cond, ◌||◌, List, [], ◌∷◌, ◌++◌, Option, Some, None, length, Bor, refl, sym, ap, ◌∙◌, subst, arith, length-append}
+use Rattle.std.proofs.Common.{◌≡◌, ℕ, ◌+◌, true, false, cond, ◌||◌, List, [], ◌∷◌, ◌++◌, Option, Some, None, length, Bor, refl, sym, ap, ◌∙◌, subst, arith, length-append}
 use Rattle.std.specs.BTreeMap.{BTreeMap, get, Updates}
 use Rattle.std.specs.Str.{bytes_eq}
 use Rattle.std.specs.Option.{is_some}
@@ -10,12 +10,7 @@ use Rattle.std.proofs.lemmas.Slice.Eq.{bytes_eq-Decides}
 use Rattle.fdt_tree.specs.Tree.{Bytes}
 use Rattle.fdt_write.specs.Strings.{is_among, firsts, offset_in, ended, strings_of}
 use Rattle.fdt_write.specs.PrivateNames.{saturated, texts, with_name, offset_of, name_cmp, IsIndex}
-
-same_Bool : (a b : Bool) → (a ≡ true → b ≡ true) → (b ≡ true → a ≡ true) → a ≡ b
-same_Bool true true f g = refl
-same_Bool true false f g = sym (f refl)
-same_Bool false true f g = g refl
-same_Bool false false f g = refl
+use Rattle.fdt_tree.proofs.PhandleLemmas.{same_Bool, or-shuffle}
 
 -- It does not matter which name comes first.
 bytes_eq-swap : (a b : Bytes) → bytes_eq a b ≡ bytes_eq b a
@@ -63,12 +58,6 @@ length-strings_push [] name =
     omega (arith, length-append (ended name) [], length-append name (0 ∷ []))
 length-strings_push (first ∷ rest) name =
     omega (arith, length-append (ended first) (strings_of (rest ++ name ∷ [])), length-append (ended first) (strings_of rest), length-strings_push rest name)
-
-or-shuffle : (a b c : Bool) → ((a || b) || c) ≡ (b || (a || c))
-or-shuffle true true c = refl
-or-shuffle true false c = refl
-or-shuffle false true c = refl
-or-shuffle false false c = refl
 
 -- A later name is one of the first, unless it was seen.
 firsts-more : (seen names : List Bytes) (name : Bytes) → firsts seen (names ++ name ∷ []) ≡ firsts seen names ++ cond (is_among seen name || is_among (firsts seen names) name) [] (name ∷ [])

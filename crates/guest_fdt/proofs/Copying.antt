@@ -1,31 +1,14 @@
 -- Copying properties and nodes.
-use Rattle.std.proofs.Common.{◌≡◌, ◌≢◌, ◌∙◌, ap, sym, subst, refl, ℕ, zero, suc, ◌+◌, ◌<◌, length, List, [], ◌∷◌, ◌++◌, Option, Some, None, option_map, take, Bool, true, false, not, cond, slice_get, arith}
-use Rattle.std.specs.Prelude.{option_and_then, IsSome, IfSome, IsTrue, ◌&&◌}
-use Rattle.fdt_tree.specs.Tree.{Bytes, Property, Trees, none, tree, Tree, Place, at, find_place, is_property_name}
+use Rattle.std.proofs.Common.{◌≡◌, ◌∙◌, ap, sym, subst, refl, ℕ, zero, suc, ◌+◌, ◌<◌, length, List, [], ◌∷◌, ◌++◌, Option, Some, None, option_map, take, Bool, true, false, not, cond, slice_get, arith}
+use Rattle.std.specs.Prelude.{option_and_then, IsSome}
+use Rattle.fdt_tree.specs.Tree.{Bytes, Property, Trees, none, tree, Tree, Place, at, find_place}
 use Rattle.fdt_tree.specs.Document.{Document, place_of, node_at, name_of, properties_of, children_of, with_node, next_place, if_there, IsNumbering}
 use Rattle.std.specs.Option.{option_map_or, option_to_list}
 use Rattle.tree_parts.specs.Nodes.{trees_of}
 use Rattle.guest_fdt.specs.Copies.{is_binding, kept, cleaned, cleaned_in, copied}
 use Rattle.tree_parts.specs.Grown.{joined, Grows}
-use Rattle.fdt_tree.specs.Document.{have_names}
-use Rattle.tree_parts.proofs.Growing.{Grows-nothing, Grows-more, Grows-inside, joined-twice}
-use Rattle.guest_fdt.proofs.Siblings.{siblings_from, first-siblings, node-siblings}
-
--- one of the properties has a name that it may have
-pub named-at : (ps : List Property) (i : ℕ) (name value : Bytes) → IsTrue (have_names ps) → slice_get ps i ≡ Some (name, value) → IsTrue (is_property_name name)
-named-at [] i name value named at = absurd (cc)
-named-at (p ∷ ps) zero name value named at =
-    let same : p.0 ≡ name = cc in subst (λ n. IsTrue (is_property_name n)) same (left (is_property_name p.0) (have_names ps) named)
-  where
-    left : (a b : Bool) → IsTrue (a && b) → IsTrue a
-    left true b h = refl
-    left false b h = h
-named-at (p ∷ ps) (suc i) name value named at = named-at ps i name value (right (is_property_name p.0) (have_names ps) named) at
-  where
-    right : (a b : Bool) → IsTrue (a && b) → IsTrue b
-    right true b h = h
-    right false true h = refl
-    right false false h = h
+use Rattle.tree_parts.proofs.Growing.{joined-none, Grows-nothing, Grows-more, Grows-inside, joined-twice}
+use Rattle.fdt_nodes.proofs.Siblings.{siblings_from, first-siblings, node-siblings}
 
 -- the next property is kept, unless it binds
 pub kept-next : (ps : List Property) (i : ℕ) (p : Property) → slice_get ps i ≡ Some p → kept (take (i + 1) ps) ≡ kept (take i ps) ++ cond (not (is_binding p.0)) (p ∷ []) []
@@ -59,10 +42,6 @@ IsCopied-start source node next doc parent numbering live is = record {
   copies = Grows-nothing doc doc parent refl;
 }
 
-joined-none : (ts : Trees) → joined ts none ≡ ts
-joined-none none = refl
-joined-none (tree n ps cs rest) = ap (tree n ps cs) (joined-none rest)
-
 pub IsCopied-end : (source : Document) (node : ℕ) (next : Option ℕ) (old new : Document) (parent : ℕ) → next ≡ None → IsCopied source node next old new parent → Grows old new parent (cleaned_in (children_of source node))
 IsCopied-end source node next old new parent end copied =
     let all : copied.before ≡ children_of source node = sym (copied.parts ∙ (ap (λ z. joined copied.before (siblings_from source z)) end ∙ joined-none copied.before)) in
@@ -79,37 +58,6 @@ IsCopied-next source node child here next old now copied done parent copy number
       parts = so_far.parts ∙ (ap (λ z. joined so_far.before (siblings_from source z)) is ∙ (ap (joined so_far.before) (node-siblings source child next (numbering.stand child live) following) ∙ sym (joined-twice so_far.before one (siblings_from source next))));
       copies = subst (λ (ts : Trees). Grows old done parent ts) (sym (cleaned-joined so_far.before one)) (Grows-more old now done parent (cleaned_in so_far.before) (cleaned_in one) first_live so_far.copies (Grows-inside now copied done parent copy n (kept ps) (cleaned_in cs) fine now_live added newest below));
     }
-
-child-below : (d : Document) (q : Place) (o : Option Tree) (p : Place) → q ≢ [] → Some p ≡ option_map (λ _. q) o → p ≢ []
-child-below d q None p ne is = absurd (cc)
-child-below d q (Some u) p ne is = λ e. let same : p ≡ q = cc in ne (sym same ∙ e)
-
-not-root : (p : Place) (k : ℕ) → p ++ k ∷ [] ≢ []
-not-root [] k = λ e. absurd (cc)
-not-root (j ∷ p) k = λ e. absurd (cc)
-
--- a child is not the root
-pub first-below : (d : Document) (p : Place) (result : Option ℕ) → option_map (λ n. place_of d n) result ≡ if_there d (p ++ 0 ∷ []) → IfSome result (λ n. place_of d n ≢ [])
-first-below d p None is = tt
-first-below d p (Some n) is = child-below d (p ++ 0 ∷ []) (at d.tree (p ++ 0 ∷ [])) (place_of d n) (not-root p 0) is
-
-next-some : (p q : Place) → next_place p ≡ Some q → q ≢ []
-next-some [] q e = absurd (cc)
-next-some (k ∷ []) q e = λ h. absurd (cc)
-next-some (k ∷ j ∷ p) q e = by (next_place (j ∷ p)) e
-  where
-    by : (o : Option Place) → option_map (λ after. k ∷ after) o ≡ Some q → q ≢ []
-    by None e = absurd (cc)
-    by (Some after) e = λ h. absurd (cc)
-
--- nor is a sibling
-pub next-below : (d : Document) (p : Place) (result : Option ℕ) → option_map (λ n. place_of d n) result ≡ option_and_then (λ q. if_there d q) (next_place p) → IfSome result (λ n. place_of d n ≢ [])
-next-below d p None is = tt
-next-below d p (Some n) is = by (next_place p) refl is
-  where
-    by : (o : Option Place) → next_place p ≡ o → Some (place_of d n) ≡ option_and_then (λ q. if_there d q) o → place_of d n ≢ []
-    by None here is = absurd (cc)
-    by (Some q) here is = child-below d q (at d.tree q) (place_of d n) (next-some p q here) is
 
 -- a path that finds nothing
 pub copied-none : (d : Document) (path : Bytes) → None ≡ find_place d.tree path → copied (Some d.tree) path ≡ []

@@ -1,5 +1,4 @@
 pub mod Instances
-pub mod Siblings
 pub mod Copying
 pub mod Lists
 pub mod Cleaning

@@ -1,6 +1,6 @@
 -- Lists that are put together from parts, and trees as lists.
 use Rattle.std.proofs.Common.{◌≡◌, ℕ, suc, Bool, true, false, cond, if◌then◌else◌, List, [], ◌∷◌, ◌++◌, Option, Some, None, map, filter, option_map, refl, sym, ap, ◌∙◌, arith}
-use Rattle.std.specs.Prelude.{All, ◌&&◌, IsTrue, bytes_eq, option_and_then}
+use Rattle.std.specs.Prelude.{All, bytes_eq, option_and_then}
 use Rattle.std.proofs.lemmas.List.Elements.{filter-append}
 use Rattle.std.proofs.lemmas.Slice.Eq.{bytes_eq-Decides}
 use Rattle.fdt_tree.specs.Tree.{Bytes, Trees, none, tree, Tree, at, at_in, first_named, descend, components}
@@ -13,15 +13,6 @@ all-first P x xs all = all 0 x (omega arith)
 
 pub all-rest : {A : Type 0} (P : A → Type 0) (x : A) (xs : List A) → All P (x ∷ xs) → All P xs
 all-rest P x xs all = λ k d h. all (suc k) d (omega arith)
-
-pub and-left : (a b : Bool) → IsTrue (a && b) → IsTrue a
-and-left true b h = refl
-and-left false b h = h
-
-pub and-right : (a b : Bool) → IsTrue (a && b) → IsTrue b
-and-right true b h = h
-and-right false true h = refl
-and-right false false h = h
 
 -- a filter of two parts
 pub filter-parts : {A : Type 0} (p : A → Bool) (xs ys zs ws : List A) → filter p xs ≡ zs → filter p ys ≡ ws → filter p (xs ++ ys) ≡ zs ++ ws

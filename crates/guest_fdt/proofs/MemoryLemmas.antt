@@ -21,7 +21,8 @@ use Rattle.guest_fdt.specs.Laws.{is_no_memory, pages_of}
 use Rattle.guest_fdt.proofs.Cleaning.{memory-cleaned}
 use Rattle.guest_fdt.proofs.EntryLemmas.{entries-pages}
 use Rattle.guest_fdt.proofs.NodeParts.{to_memory, to_devices, to_console, to_regions}
-use Rattle.guest_fdt.proofs.Lists.{all-first, all-rest, and-left, and-right, filter-parts, filter-before, list-of-trees}
+use Rattle.guest_fdt.proofs.Lists.{all-first, all-rest, filter-parts, filter-before, list-of-trees}
+use Rattle.tree_parts.proofs.Conjunctions.{and-left, and-right}
 
 chosen-plain : (area : BaseSize) (bootargs : Option Bytes) (with_console : Bool) → is_memory_node (chosen area bootargs with_console) ≡ false
 unfolding chosen

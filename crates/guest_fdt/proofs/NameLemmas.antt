@@ -6,7 +6,7 @@ use Rattle.std.specs.Fmt.{digits, digits_onto, digit_glyph}
 use Rattle.std.proofs.lemmas.Bool.Decides.{nat_tests}
 use Rattle.fdt_tree.specs.Tree.{Bytes, is_node_name}
 use Rattle.tree_parts.specs.Nodes.{named_at}
-use Rattle.guest_fdt.proofs.Lists.{and-left, and-right}
+use Rattle.tree_parts.proofs.Conjunctions.{and-left, and-right}
 
 no-nul-glyph : (d : ℕ) → d < 16 → not (digit_glyph false d == 0) ≡ true
 no-nul-glyph d h = grind (arith, nat_tests)

@@ -88,11 +88,11 @@ fold-assign given =
     λ j. record { texts = λ key. texts key j; keys = keys j }
 
 -- the parts between line feeds, the first one off
-unfoldable parts_after : List ℕ → List (List ℕ)
+unfoldable pub parts_after : List ℕ → List (List ℕ)
 parts_after [] = []
 parts_after (x ∷ xs) = slice_split (λ c. c == 10) xs
 
-parts_cut : (bytes : List ℕ) → slice_split (λ c. c == 10) bytes ≡ run_of not_feed bytes ∷ parts_after (after_run not_feed bytes)
+pub parts_cut : (bytes : List ℕ) → slice_split (λ c. c == 10) bytes ≡ run_of not_feed bytes ∷ parts_after (after_run not_feed bytes)
 unfolding parts_after
 parts_cut [] = refl
 parts_cut (x ∷ xs) = by (x == 10) refl (parts_cut xs)

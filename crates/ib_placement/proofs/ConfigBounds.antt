@@ -16,11 +16,11 @@ use Rattle.ib_config.specs.declared.fault.ConfigFault.TheVariants.{Missing, BadV
 use Rattle.ib_config.specs.declared.settings.Settings.{Settings}
 
 -- a value, where what follows it came to a value too
-after : {A B : Type 0} (P : Type 0) (r : Result A ConfigFault) (f : A → Result B ConfigFault) (y : B) → (r >>= f) ≡ Ok y → ((x : A) → r ≡ Ok x → f x ≡ Ok y → P) → P
+pub after : {A B : Type 0} (P : Type 0) (r : Result A ConfigFault) (f : A → Result B ConfigFault) (y : B) → (r >>= f) ≡ Ok y → ((x : A) → r ≡ Ok x → f x ≡ Ok y → P) → P
 after P (Ok x) f y is on = on x refl is
 after P (Err fault) f y is on = absurd (cc)
 
-between : (low high n : ℕ) (text : List ℕ) → number_between low high text ≡ Some n → n ≤ high
+pub between : (low high n : ℕ) (text : List ℕ) → number_between low high text ≡ Some n → n ≤ high
 between low high n text is = by (number text) refl
   where
     by : (o : Option ℕ) → number text ≡ o → n ≤ high

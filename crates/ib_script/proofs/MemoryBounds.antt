@@ -1,44 +1,19 @@
 -- The memory of a configuration's guests is bounded.
-use Rattle.std.proofs.Common.{◌≡◌, ℕ, zero, suc, ◌≤◌, Bool, true, false, List, [], ◌∷◌, slice_get, Some, None, Ok, Err, refl, ap, arith, inl, inr}
-use Rattle.std.specs.Prelude.{Option, Result, IfSome, nat_le, ok_or, option_map, ◌&&◌, if◌then◌else◌}
+use Rattle.std.proofs.Common.{◌≡◌, ℕ, zero, suc, ◌≤◌, Bool, true, false, List, [], ◌∷◌, slice_get, Some, None, Ok, Err, refl, ap, arith}
+use Rattle.std.specs.Prelude.{Option, Result, IfSome, ok_or, option_map, if◌then◌else◌}
 use Rattle.std.specs.Option.{option_map_or}
 use Rattle.std.specs.Result.{result_map_both}
-use Rattle.std.proofs.lemmas.Bool.{and_parts, cases_Bool}
-use Rattle.std.proofs.lemmas.Bool.Decides.{nat_tests}
 use Rattle.texts.specs.Consecutive.{numbers}
-use Rattle.ib_config.specs.Rules.{number, number_between, where_true}
+use Rattle.ib_config.specs.Rules.{number, number_between}
 use Rattle.ib_config.specs.Line.{lines_of, first_line_fault, assignments_of}
 use Rattle.ib_config.specs.Variables as table
 use Rattle.ib_config.specs.Variables.{Assigned, Wrong, assigned_in, value_of, text_of, optional_by}
 use Rattle.ib_config.specs.declared.fault.ConfigFault.TheVariants.{BadValue}
-use Rattle.ib_config.specs.Settings.{◌>>=◌, config_of, settings_of, guest_settings, each, IsConfig, is_static, direct_value, ports_at}
+use Rattle.ib_config.specs.Settings.{config_of, settings_of, guest_settings, each, IsConfig, is_static, direct_value, ports_at}
 use Rattle.ib_config.specs.declared.fault.ConfigFault.{ConfigFault}
 use Rattle.ib_config.specs.declared.guests.Guest.{Guest}
 use Rattle.ib_config.specs.declared.settings.Settings.{Settings}
-
--- a value, where what follows it came to a value too
-after : {A B : Type 0} (P : Type 0) (r : Result A ConfigFault) (f : A → Result B ConfigFault) (y : B) → (r >>= f) ≡ Ok y → ((x : A) → r ≡ Ok x → f x ≡ Ok y → P) → P
-after P (Ok x) f y is on = on x refl is
-after P (Err fault) f y is on = absurd (cc)
-
--- a number that is read within bounds
-between : (low high n : ℕ) (text : List ℕ) → number_between low high text ≡ Some n → n ≤ high
-between low high n text is = by (number text) refl
-  where
-    by : (o : Option ℕ) → number text ≡ o → n ≤ high
-    by None read = absurd (let none : number_between low high text ≡ None = rw read refl in cc)
-    by (Some m) read = inside (rw read at is)
-      where
-        inside : where_true (nat_le low m && nat_le m high) m ≡ Some n → n ≤ high
-        inside found = elim (cases_Bool (nat_le low m && nat_le m high)) [
-          | inl holds ↦
-              let high_is : nat_le m high ≡ true = (and_parts (nat_le low m) (nat_le m high) holds).1 in
-              let some : where_true (nat_le low m && nat_le m high) m ≡ Some m = rw holds refl in
-              let same : m ≡ n = cc in
-              let below : m ≤ high = grind (arith, nat_tests) in
-              omega arith
-          | inr fails ↦ absurd (let none : where_true (nat_le low m && nat_le m high) m ≡ None = rw fails refl in cc)
-        ]
+use Rattle.ib_placement.proofs.ConfigBounds.{after, between}
 
 -- a number of MiB is at most this
 abbrev pub IsBounded : Option ℕ → Type 0

@@ -1,5 +1,5 @@
 -- Maps of children by their names, where a child is added or properties are changed.
-use Rattle.std.proofs.Common.{◌≡◌, ◌≢◌, ◌⊎◌, inl, inr, ◌∙◌, ap, sym, subst, refl, ℕ, ◌<◌, [], ◌∷◌, ◌++◌, Option, Some, None, option_map, IfSome, Bool, true, false, cond, length, arith}
+use Rattle.std.proofs.Common.{◌≡◌, ◌≢◌, ◌⊎◌, inl, inr, ◌∙◌, ap, sym, subst, refl, ℕ, ◌<◌, [], ◌∷◌, ◌++◌, Option, Some, None, option_map, IfSome, Bool, true, false, cond, length, arith, List}
 use Rattle.std.specs.Prelude.{bytes_eq}
 use Rattle.std.specs.Option.{option_map_or}
 use Rattle.std.proofs.lemmas.Bool.{cases_eq}
@@ -12,7 +12,6 @@ use Rattle.tree_parts.proofs.Growing.{stands}
 use Rattle.indexed_tree.specs.PrivateIndex.{entered}
 use Rattle.indexed_tree.proofs.ChildNumbers.{first_number, number_below, place-number, number-last, numbers-other}
 use Rattle.indexed_tree.proofs.Numberings.{above, count-above, longer, old, new, new_at}
-use Rattle.std.proofs.Common.{List}
 
 number-of : (w : Bytes) (o : Option Tree) (x : Option ℕ) → option_map (number_below w) o ≡ Some x → first_number w (option_map_or (λ (u : Tree). u.children) o none) ≡ x
 number-of w None x is = absurd (cc)

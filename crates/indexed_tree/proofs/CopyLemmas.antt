@@ -5,8 +5,8 @@ use Rattle.std.specs.Option.{option_map_or}
 use Rattle.fdt_tree.specs.Tree.{Bytes, Property, Trees, none, tree, Tree, Place, at, edit, change_properties}
 use Rattle.fdt_tree.specs.Document.{Document, empty, place_of, name_of, properties_of, children_of, with_node, next_place, if_there, IsNumbering}
 use Rattle.tree_parts.specs.Grown.{joined, Grows, with_more, with_last_children}
-use Rattle.tree_parts.proofs.Growing.{Grows-nothing, Grows-more, Grows-inside, joined-twice}
-use Rattle.indexed_tree.proofs.Siblings.{siblings_from, joined-none, first-siblings, node-siblings}
+use Rattle.tree_parts.proofs.Growing.{joined-none, Grows-nothing, Grows-more, Grows-inside, joined-twice}
+use Rattle.fdt_nodes.proofs.Siblings.{siblings_from, first-siblings, node-siblings}
 
 -- what a walk over the children of a node has done: the children before the next one are copied
 pub record IsCopied (source : Document) (node : ℕ) (next : Option ℕ) (old new : Document) (parent : ℕ) : Type 0 where

@@ -15,7 +15,5 @@ pub mod Numberings
 pub mod PhandleEdits
 pub mod PropertyIndex
 pub mod Settings
-pub mod Siblings
 pub mod TreeParts
 pub mod Values
-pub mod Walks

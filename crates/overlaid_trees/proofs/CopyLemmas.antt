@@ -8,11 +8,11 @@ use Rattle.fdt_tree.specs.Document.{Document, empty, place_of, name_of, properti
 use Rattle.fdt_tree.specs.PathEdits.{set_property}
 use Rattle.fdt_nodes.specs.Values.{u32_in}
 use Rattle.tree_parts.specs.Grown.{joined, Grows, with_more, with_last_children}
-use Rattle.tree_parts.proofs.Growing.{Grows-nothing, Grows-more, Grows-inside, joined-twice, with_more-nothing, with_more-twice}
+use Rattle.tree_parts.proofs.Growing.{joined-none, Grows-nothing, Grows-more, Grows-inside, joined-twice, with_more-nothing, with_more-twice}
 use Rattle.overlaid_trees.specs.Shift.{moved_properties, moved_in, moved_tree}
 use Rattle.overlaid_trees.specs.PrivateCopies.{placed, left_over, with_first, moved_phandle}
 use Rattle.overlaid_trees.proofs.TurnLemmas.{from-index, from-end}
-use Rattle.overlaid_trees.proofs.Siblings.{siblings_from, joined-none, first-siblings, node-siblings}
+use Rattle.fdt_nodes.proofs.Siblings.{siblings_from, first-siblings, node-siblings}
 
 -- the properties before an index are given, and what is left of them is known
 pub record IsGiven (name : Bytes) (whole : List Property) (rest : List Property) (left : Option Bytes) (old new : Document) (copy : ℕ) : Type 0 where

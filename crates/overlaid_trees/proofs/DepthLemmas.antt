@@ -4,7 +4,7 @@ use Rattle.std.specs.Prelude.{nat_le, option_and_then}
 use Rattle.std.proofs.lemmas.Bool.Decides.{nat_tests}
 use Rattle.fdt_tree.specs.Document.{Document, place_of, children_of, next_place, if_there, IsNumbering}
 use Rattle.fdt_tree.specs.Whole.{height}
-use Rattle.overlaid_trees.proofs.Siblings.{siblings_from, first-siblings, node-siblings}
+use Rattle.fdt_nodes.proofs.Siblings.{siblings_from, first-siblings, node-siblings}
 
 -- whether what is below a node is within some room is whether what the children from here on are is
 abbrev pub IsMeasured : Document → ℕ → ℕ → Option ℕ → Type 0

@@ -15,7 +15,7 @@ use Rattle.overlaid_trees.specs.Values.{first_child}
 use Rattle.overlaid_trees.specs.Merge.{Fragment, fragment_first, fragments, target_of, merged_at, merged_node, with_fragment, merged}
 use Rattle.indexed_tree.specs.Lookups.{child_place}
 use Rattle.overlaid_trees.specs.PrivateGrown.{one_tree, tree_of}
-use Rattle.overlaid_trees.proofs.Siblings.{siblings_from, first-siblings, node-siblings}
+use Rattle.fdt_nodes.proofs.Siblings.{siblings_from, first-siblings, node-siblings}
 
 -- the first child of a name is the node where it stands
 first_child-at : (name : Bytes) (ts : Trees) → first_child name ts ≡ option_and_then (λ (x : ℕ × Trees). at_in ts x.0 []) (first_named name ts)

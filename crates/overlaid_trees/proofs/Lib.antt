@@ -11,8 +11,6 @@ pub mod PutLemmas
 pub mod Rows
 pub mod SetLemmas
 pub mod ShiftLemmas
-pub mod Siblings
 pub mod SpotLemmas
 pub mod TurnLemmas
-pub mod Walks
 pub mod WordLemmas

@@ -9,11 +9,11 @@ use Rattle.fdt_tree.specs.Document.{Document, place_of, name_of, properties_of, 
 use Rattle.fdt_tree.specs.PathEdits.{set_property}
 use Rattle.fdt_tree.proofs.Links.{length-last, place-new, children_at-there}
 use Rattle.tree_parts.specs.Grown.{joined}
-use Rattle.tree_parts.proofs.Growing.{edit-twice, edit-same, edit-nothing, stands, joined-twice}
+use Rattle.tree_parts.proofs.Growing.{joined-none, edit-twice, edit-same, edit-nothing, stands, joined-twice}
 use Rattle.overlaid_trees.specs.Merge.{change_named, merged_in, set_all}
 use Rattle.indexed_tree.specs.Lookups.{child_place}
 use Rattle.overlaid_trees.specs.PrivateGrown.{Changes, merging, merging_all, IsOpened}
-use Rattle.overlaid_trees.proofs.Siblings.{siblings_from, joined-none, first-siblings, node-siblings}
+use Rattle.fdt_nodes.proofs.Siblings.{siblings_from, first-siblings, node-siblings}
 
 edit_in-there : (f g : Tree → Tree) (ts : Trees) (k : ℕ) (p : Place) (u : Tree) → at_in ts k p ≡ Some u → f u ≡ g u → edit_in f ts k p ≡ edit_in g ts k p
 edit_in-there f g none k p u at same = refl

@@ -1,5 +1,5 @@
 -- Values that are changed at a place.
-use Rattle.std.proofs.Common.{◌≡◌, ◌∙◌, ap, sym, subst, refl, ℕ, zero, suc, List, [], ◌∷◌, Bool, true, false, cond, Option, Some, option_map, slice_get}
+use Rattle.std.proofs.Common.{◌≡◌, ◌∙◌, ap, sym, subst, refl, ℕ, List, [], ◌∷◌, Bool, true, false, cond, Option, Some, option_map}
 use Rattle.std.specs.Prelude.{bytes_eq, option_and_then, IsTrue, ◌&&◌, slice_index_or}
 use Rattle.std.proofs.lemmas.Slice.Eq.{bytes_eq-Decides}
 use Rattle.fdt_tree.specs.Tree.{Bytes, Property, Tree, Place, edit, change_properties, property_of, is_property_name}
@@ -14,22 +14,6 @@ changed-some d new node name value made slice change is ok same done =
   where
     written : Bytes → Tree
     written bytes = edit (change_properties (set_property name bytes)) d.tree (place_of d node)
-
--- one of the properties has a name that it may have
-pub named-at : (ps : List Property) (i : ℕ) (name value : Bytes) → IsTrue (have_names ps) → slice_get ps i ≡ Some (name, value) → IsTrue (is_property_name name)
-named-at [] i name value named at = absurd (cc)
-named-at (p ∷ ps) zero name value named at =
-    let same : p.0 ≡ name = cc in subst (λ n. IsTrue (is_property_name n)) same (left (is_property_name p.0) (have_names ps) named)
-  where
-    left : (a b : Bool) → IsTrue (a && b) → IsTrue a
-    left true b h = refl
-    left false b h = h
-named-at (p ∷ ps) (suc i) name value named at = named-at ps i name value (right (is_property_name p.0) (have_names ps) named) at
-  where
-    right : (a b : Bool) → IsTrue (a && b) → IsTrue b
-    right true b h = h
-    right false true h = refl
-    right false false h = h
 
 -- a node stands where it stood
 pub same-place : (old new : Document) (node : ℕ) → new.places ≡ old.places → place_of new node ≡ place_of old node

@@ -1,6 +1,5 @@
 pub mod Instances
 pub mod Upward
-pub mod Turns
 pub mod Lists
 pub mod Noted
 pub mod Soundness

@@ -1,9 +1,8 @@
 -- Items are sound up to the first one with a reason of its own.
-use Rattle.std.proofs.Common.{◌≡◌, ◌∙◌, ap, sym, subst, refl, ℕ, ◌+◌, ◌%◌, ◌^◌, ◌<◌, ◌≤◌, List, [], ◌∷◌, ◌++◌, Some, None, true, false, Bool, length, arith}
+use Rattle.std.proofs.Common.{◌≡◌, ◌∙◌, ap, sym, subst, refl, ℕ, ◌+◌, ◌%◌, ◌^◌, ◌≤◌, List, [], ◌∷◌, ◌++◌, Some, None, true, false, Bool, length, arith}
 use Rattle.std.specs.Prelude.{Option, map, flat_map, ◌==◌, ◌||◌, ◌&&◌, not, nat_lt, nat_le}
 use Rattle.std.specs.List.{list_any}
 use Rattle.described.specs.declared.item.Described.{Described}
-use Rattle.described.specs.declared.item.Item.{Item}
 use Rattle.described.specs.declared.item.Part.TheVariants as parts
 use Rattle.described.specs.declared.item.What.{What}
 use Rattle.described.specs.declared.item.What.TheVariants as whats
@@ -13,14 +12,14 @@ use Rattle.fdt_tree.specs.Tree.{Bytes, Tree}
 use Rattle.fdt_nodes.specs.declared.entries.Window.{Window}
 use Rattle.fdt_nodes.specs.Nodes.{Node, shown}
 use Rattle.passthrough_dtb.specs.declared.interrupts.Interrupt.{Interrupt}
-use Rattle.described.specs.Reasons.{where_so, first_reason, described, is_not_page, is_too_high, is_too_large}
+use Rattle.described.specs.Reasons.{where_so, first_reason, is_not_page, is_too_high, is_too_large}
 use Rattle.passthrough_dtb.specs.Whole.{item_in, partial_reason}
 use Rattle.passthrough_dtb.specs.Devices.{devices, device_item, device_reason, host_node, properties_of}
 use Rattle.passthrough_dtb.specs.Ranges.{Entry, same_range, is_among, and_range, new_range_reason, range_reason, ranges_after, range_items, entries_of}
 use Rattle.passthrough_dtb.specs.Interrupts.{interrupts_of, is_no_spi, same_interrupt, interrupt_reason, interrupts_from, irq_items}
 use Rattle.passthrough_dtb.specs.Items.{partial_items}
-use Rattle.std.proofs.lemmas.Bool.Decides.{nat_tests}
-use Rattle.described.specs.Sound.{AreWholePages, IsSound, SoundUnless, AreSound}
+use Rattle.described.specs.Sound.{AreWholePages, SoundUnless, AreSound}
+use Rattle.described.proofs.Soundness.{sound-item, neither, holds, to_eq, to_le, to_some}
 
 -- what an item says is kept where what follows is weakened
 unless-then : (own : Option Why) (what : What) (A B : Type 0) → (A → B) → SoundUnless own what A → SoundUnless own what B
@@ -32,33 +31,9 @@ sound-append [] other sound later = later
 sound-append (item ∷ one) other sound later =
     unless-then item.own item.what (AreSound one) (AreSound (one ++ other)) (λ rest. sound-append one other rest later) sound
 
--- an item is sound where it says so without a reason
-pub sound-item : (item : Item) (own : Option Why) (what : What) (later : Type 0) → (own ≡ None → IsSound what × later)
-    → SoundUnless (described item own what).own (described item own what).what later
-sound-item item None what later says = says refl
-sound-item item (Some why) what later says = tt
-
 pub sound-flat : {A : Type 0} (f : A → List Described) → ((a : A) → AreSound (f a)) → (xs : List A) → AreSound (flat_map f xs)
 sound-flat f each [] = tt
 sound-flat f each (x ∷ xs) = sound-append (f x) (flat_map f xs) (each x) (sound-flat f each xs)
-
--- tests that fail
-neither : (a b : Bool) → (a || b) ≡ false → (a ≡ false) × (b ≡ false)
-neither false b is = (refl, is)
-neither true b is = absurd (cc)
-
-holds : (a : Bool) → not a ≡ false → a ≡ true
-holds true is = refl
-holds false is = absurd (cc)
-
-to_eq : (a b : ℕ) → (a == b) ≡ true → a ≡ b
-to_eq a b is = grind (arith, nat_tests)
-
-to_le : (a b : ℕ) → nat_lt a b ≡ false → b ≤ a
-to_le a b is = grind (arith, nat_tests)
-
-to_some : (a : ℕ) → (a == 0) ≡ false → 0 < a
-to_some a is = grind (arith, nat_tests)
 
 -- two addresses and a size that pass both tests
 pub pages : (one other size : ℕ) → is_not_page (one ∷ other ∷ []) size ≡ false → is_too_high (one ∷ other ∷ []) size ≡ false → AreWholePages one size × AreWholePages other size

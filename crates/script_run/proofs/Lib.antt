@@ -1,6 +1,5 @@
 -- Lemmas.
 mod Instances
-pub mod RunLemmas
 pub mod WordSteps
 pub mod NumberLemmas
 pub mod TextLemmas

@@ -1,11 +1,11 @@
 -- Lines one after the other, and their commands.
-use Rattle.std.proofs.Common.{◌≡◌, ℕ, ◌+◌, ◌==◌, Bool, true, false, cond, not, List, [], ◌∷◌, ◌++◌, length, drop, refl, sym, ap, ◌∙◌, arith, map, Ok, Err, Some, None, append_assoc, append-nil}
+use Rattle.std.proofs.Common.{◌≡◌, ℕ, ◌+◌, Bool, true, false, cond, not, List, [], ◌∷◌, ◌++◌, length, drop, refl, sym, ap, ◌∙◌, arith, map, Ok, Err, Some, None, append_assoc, append-nil}
 use Rattle.std.specs.Prelude.{Result, Option, option_and_then, is_none, option_to_list}
 use Rattle.std.specs.Option.{option_map_or}
-use Rattle.std.specs.List.{list_all, slice_split}
+use Rattle.std.specs.List.{list_all}
 use Rattle.std.specs.Str.Lines.{strip_carriage_return}
 use Rattle.texts.specs.Rows.{first_that_applies}
-use Rattle.ib_config.specs.Runs.{run_of, after_run}
+use Rattle.ib_config.specs.Runs.{after_run}
 use Rattle.ib_config.specs.Line.{lines_of, body_of, says_nothing}
 use Rattle.ib_config.specs.PrivateScan.{not_feed, line_at, after_line}
 use Rattle.ib_script.specs.declared.command.Command.{Command}
@@ -16,6 +16,7 @@ use Rattle.script_run.specs.Commands.{Form, form_of, command_of, has_paths, word
 use Rattle.script_run.specs.declared.script.ScriptFault.TheVariants.{Line, Memory}
 use Rattle.script_run.specs.Reading.{IsFault, ◌>>=◌, in_line, line_read, lines_read, commands_of}
 use Rattle.script_run.specs.PrivateScan.{checked, form_read, words_steps, rest_read}
+use Rattle.ib_config.proofs.AssignLemmas.{parts_after, parts_cut}
 
 -- the two tests of words, and then their form
 in_steps : (p c : Bool) (form : Option Form) → option_map_or Err (first_that_applies ((not p, NotPlain) ∷ (not c, OpenQuote) ∷ (is_none form, BadCommand) ∷ (is_none (option_and_then command_of form), BadNumber) ∷ (not (option_map_or has_paths form true), BadPath) ∷ []))
@@ -44,21 +45,6 @@ unfolding line_read
 read_words n line s = rw s (ap (λ r. in_line n r >>= λ command. Ok (Some command)) (words_read_is (words_of_line line)))
 
 pub ruleset line_lemmas = (read_silent, read_words)
-
--- the parts between line feeds, the first one off
-unfoldable parts_after : List ℕ → List (List ℕ)
-parts_after [] = []
-parts_after (x ∷ xs) = slice_split (λ c. c == 10) xs
-
-parts_cut : (bytes : List ℕ) → slice_split (λ c. c == 10) bytes ≡ run_of not_feed bytes ∷ parts_after (after_run not_feed bytes)
-unfolding parts_after
-parts_cut [] = refl
-parts_cut (x ∷ xs) = by (x == 10) refl (parts_cut xs)
-  where
-    by : (b : Bool) → (x == 10) ≡ b → slice_split (λ c. c == 10) xs ≡ run_of not_feed xs ∷ parts_after (after_run not_feed xs)
-        → slice_split (λ c. c == 10) (x ∷ xs) ≡ run_of not_feed (x ∷ xs) ∷ parts_after (after_run not_feed (x ∷ xs))
-    by true feed rest = rw feed refl
-    by false other rest = rw (other, rest) refl
 
 -- an empty line says nothing
 empty_line : (n : ℕ) → line_read n [] ≡ Ok None

@@ -9,8 +9,8 @@ use Rattle.texts.specs.declared.ranges.BaseSize.{BaseSize}
 use Rattle.ib_config.specs.Line.{lines_of, first_line_fault, assignments_of}
 use Rattle.ib_config.specs.Rules.{number_between, file_name, static_ranges, shared_regions, event_channels}
 use Rattle.ib_config.specs.Variables as table
-use Rattle.ib_config.specs.Variables.{Assigned, Wrong, Variable, assigned_in, value_of, by_rule, optional_by, required_file, optional_file, optional, with_default, guest_count}
-use Rattle.ib_config.specs.Settings.{◌>>=◌, config_of, settings_of, guest_settings, each, IsConfig, is_static, direct_value, ports_at}
+use Rattle.ib_config.specs.Variables.{Assigned, assigned_in, value_of, required_file, optional_file, optional}
+use Rattle.ib_config.specs.Settings.{config_of, settings_of, guest_settings, each, IsConfig, is_static, direct_value, ports_at}
 use Rattle.ib_config.specs.declared.fault.ConfigFault.{ConfigFault}
 use Rattle.ib_config.specs.declared.fault.ConfigFault.TheVariants.{BadValue}
 use Rattle.ib_config.specs.declared.groups.ShmGroup.{ShmGroup}
@@ -27,6 +27,7 @@ use Rattle.script_run.proofs.GoodGuests.{good_option, good_range, good_region}
 use Rattle.script_run.proofs.Extensions.{all_both}
 use Rattle.script_run.proofs.AssignedTexts.{Holds, file_texts, texts_held}
 use Rattle.script_run.proofs.SpokenValues.{value_holds, rule_some, optional_some, between_high, text_quotable, file_wordable, ranges_good, regions_good, has_cell, channels_good, guest_count_low}
+use Rattle.ib_placement.proofs.ConfigBounds.{after}
 
 -- the value of a result, or another
 abbrev value_in : {A E : Type 0} → A → Result A E → A
@@ -127,11 +128,6 @@ pub record AreSpokenSettings (limit : ℕ) (s : Settings) : Type 0 where
   pub dom0_cmd : good_option s.dom0_cmd ≡ true
   pub guests : AreSpoken limit s.guests
   pub number : length s.guests ≤ 16
-
--- a value, where what follows it came to a value too
-after : {A B : Type 0} (P : Type 0) (r : Result A ConfigFault) (f : A → Result B ConfigFault) (y : B) → (r >>= f) ≡ Ok y → ((x : A) → r ≡ Ok x → f x ≡ Ok y → P) → P
-after P (Ok x) f y is on = on x refl is
-after P (Err fault) f y is on = absurd (cc)
 
 guest_spoken : (limit : ℕ) (assigned : Assigned) → Holds limit assigned → (count n : ℕ) (g : Guest) → guest_settings assigned count n ≡ Ok g → IsSpokenGuest limit g
 unfolding guest_settings

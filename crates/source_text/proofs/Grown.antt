@@ -1,9 +1,8 @@
 -- How each token changes the tree that is read.
-use Rattle.std.proofs.Common.{◌≡◌, ◌≢◌, ◌⊎◌, inl, inr, ℕ, suc, zero, ◌<◌, List, [], ◌∷◌, ◌++◌, Option, Some, None, option_map, unwrap_or, length, length-append, refl, sym, ap, subst, ◌∙◌, append_assoc, arith, Ok}
-use Rattle.fdt_tree.specs.Tree.{Bytes, Property, Trees, none, tree, Tree, Place, at_in, at, count, edit, add_child, change_properties}
+use Rattle.std.proofs.Common.{◌≡◌, ◌≢◌, ◌⊎◌, inl, inr, ℕ, suc, zero, ◌<◌, List, [], ◌∷◌, ◌++◌, Option, Some, None, option_map, length, length-append, refl, sym, ap, subst, ◌∙◌, append_assoc, arith, Ok}
+use Rattle.fdt_tree.specs.Tree.{Bytes, Trees, none, tree, Tree, Place, at_in, at, count, edit, add_child, change_properties}
 use Rattle.fdt_tree.specs.Document.{Document, empty, place_of, if_there, parent_place, children_at, with_child, with_child_of, with_property}
-use Rattle.fdt_tree.specs.PrivateLinks.{summary}
-use Rattle.fdt_tree.proofs.Edits.{add_child-Extends, change_properties-Extends, Extends, at-edit_same, at-edit_other, at-new}
+use Rattle.fdt_tree.proofs.Edits.{add_child-Extends, change_properties-Extends, at-edit_same, at-new}
 use Rattle.fdt_tree.proofs.Links.{children_at-there, count-with_last, place-new}
 use Rattle.fdt_read.specs.Tokens.{Token, begin_node, end_node, property}
 use Rattle.fdt_read.proofs.Opened.{opened-begin, opened-property, opened-end}
@@ -12,34 +11,8 @@ use Rattle.fdt_read.proofs.Kept.{added, added_live}
 use Rattle.source_text.specs.declared.growing.Growing.{Growing}
 use Rattle.source_text.specs.PrivateTurns.{above}
 use Rattle.source_text.specs.PrivateReadings.{InTree, IsGrown}
-
-same_some : {A : Type 0} (a b : A) → Some a ≡ Some b → a ≡ b
-same_some a b e = cc
-
--- How two places come apart.
-split_last : (p q : Place) (c k : ℕ) (r : Place) → p ++ c ∷ [] ≡ q ++ k ∷ r → (p ≡ q) × (c ≡ k) ⊎ (s : Place) × (p ≡ q ++ k ∷ s)
-split_last [] [] c k r e = inl (refl, cc)
-split_last [] (x ∷ q) c k r e = absurd (omega (arith, ap length e, length-append q (k ∷ r)))
-split_last (y ∷ p) [] c k r e = inr (p, cc)
-split_last (y ∷ p) (x ∷ q) c k r e =
-    let h : y ≡ x = cc in let t : p ++ c ∷ [] ≡ q ++ k ∷ r = cc in onward h (split_last p q c k r t)
-  where
-    onward : y ≡ x → (p ≡ q) × (c ≡ k) ⊎ (s : Place) × (p ≡ q ++ k ∷ s) → (y ∷ p ≡ x ∷ q) × (c ≡ k) ⊎ (s : Place) × (y ∷ p ≡ (x ∷ q) ++ k ∷ s)
-    onward h (inl g) = inl (cc, g.1)
-    onward h (inr g) = inr (g.0, ap (λ z. z ∷ p) h ∙ ap (λ z. x ∷ z) g.1)
-
-counted : (o : Option Tree) (k : ℕ) → unwrap_or (option_map (λ n. count n.children) o) 0 ≡ suc k → (w : Tree) × (o ≡ Some w) × (count w.children ≡ suc k)
-counted None k e = absurd (cc)
-counted (Some w) k e = (w, refl, e)
-
-by_summary : (o : Option Tree) (w : Tree) → option_map summary o ≡ Some (summary w) → unwrap_or (option_map (λ n. count n.children) o) 0 ≡ count w.children
-by_summary None w e = absurd (cc)
-by_summary (Some u) w e = let h : summary u ≡ summary w = cc in ap (λ (z : Bytes × (List Property × ℕ)). z.1.1) h
-
--- The number of children of a node stays, but for the node that is changed.
-count_kept : (f : Tree → Tree) → Extends f → (t : Tree) (p q : Place) (k : ℕ) → p ≢ q → children_at t q ≡ suc k → children_at (edit f t p) q ≡ suc k
-count_kept f x t p q k ne e =
-    let w = counted (at t q) k e in by_summary (at (edit f t p) q) w.0 (at-edit_other f x t p q w.0 ne w.1) ∙ w.2
+use Rattle.fdt_read.proofs.Progress.{counted, same_some, split_last, count_kept}
+use Rattle.fdt_read.proofs.Steps.{no_split}
 
 longer : (p q : Place) (k : ℕ) (r : Place) → p ≡ q ++ k ∷ r → p ≢ q
 longer p q k r e f = absurd (omega (arith, ap length e, ap length f, length-append q (k ∷ r)))
@@ -78,10 +51,6 @@ step_end tokens t q k i =
       here = (w.0, w.1);
       last = λ p j r g. i.last p j (r ++ k ∷ []) (ap (λ z. z ++ k ∷ []) g ∙ append_assoc p (j ∷ r) (k ∷ []));
     }
-
--- Nothing was read: the root is open.
-no_split : (q : Place) (k : ℕ) (r : Place) → [] ≡ q ++ k ∷ r → ⊥
-no_split q k r e = omega (arith, ap length e, length-append q (k ∷ r))
 
 bare_root : InTree (begin_node [] ∷ []) empty.tree []
 bare_root = record { read = refl; here = (empty.tree, refl); last = λ q k r g. absurd (no_split q k r g) }

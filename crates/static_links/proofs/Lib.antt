@@ -3,4 +3,3 @@ pub mod Links
 pub mod Lists
 pub mod RegionTests
 pub mod Soundness
-pub mod Turns

@@ -1,49 +1,22 @@
 -- Items are sound up to the first one with a reason of its own.
-use Rattle.std.proofs.Common.{◌≡◌, ◌∙◌, refl, ℕ, ◌+◌, ◌%◌, ◌^◌, ◌<◌, ◌≤◌, List, [], ◌∷◌, ◌++◌, Some, None, true, false, Bool, arith}
+use Rattle.std.proofs.Common.{◌≡◌, ◌∙◌, refl, ℕ, ◌+◌, ◌%◌, ◌^◌, List, [], ◌∷◌, ◌++◌, Some, None, true, false, Bool}
 use Rattle.std.specs.Prelude.{Option, ◌==◌, ◌||◌, not, nat_lt, nat_le, is_none, unwrap_or}
 use Rattle.std.specs.Option.{option_map_or}
-use Rattle.std.proofs.lemmas.Bool.Decides.{nat_tests}
 use Rattle.described.specs.declared.item.Described.{Described}
-use Rattle.described.specs.declared.item.Item.{Item}
 use Rattle.described.specs.declared.item.Part.TheVariants as parts
-use Rattle.described.specs.declared.item.What.{What}
 use Rattle.described.specs.declared.item.What.TheVariants as whats
-use Rattle.described.specs.declared.why.Why.{Why}
 use Rattle.described.specs.declared.why.Why.TheVariants.{TooMany, Missing, BadValue, BadLength, NotPage, TooHigh, TooLarge}
 use Rattle.fdt_tree.specs.Tree.{Tree}
 use Rattle.static_links.specs.declared.shared.SharedRegion.{SharedRegion}
 use Rattle.fdt_nodes.specs.Nodes.{Node}
-use Rattle.described.specs.Reasons.{where_so, first_reason, described, is_not_page, is_too_high, is_too_large}
+use Rattle.described.specs.Reasons.{where_so, first_reason, is_not_page, is_too_high, is_too_large}
 use Rattle.fdt_nodes.specs.NodeItems.{item_of}
 use Rattle.static_links.specs.Shared.{region, of_region, addresses, shared_id, is_owner, lacks_region, has_bad_value, shared_reason, shared_what, shared_from, shared_items, shared_memory, children_with}
 use Rattle.static_links.specs.Channels.{Channel, Ends, ends_of, other_end, event_channel}
 use Rattle.static_links.specs.Ports.{linked_to, port_item, port_reason, port_what, ports_after, port_items}
-use Rattle.described.specs.Sound.{AreWholePages, IsSound, IsSoundRegion, SoundUnless, AreSound}
+use Rattle.described.specs.Sound.{AreWholePages, IsSound, IsSoundRegion, AreSound}
 use Rattle.static_links.proofs.RegionTests.{twice_not_page, twice_too_high}
-
--- an item is sound where it says so without a reason
-sound-item : (item : Item) (own : Option Why) (what : What) (later : Type 0) → (own ≡ None → IsSound what × later)
-    → SoundUnless (described item own what).own (described item own what).what later
-sound-item item None what later says = says refl
-sound-item item (Some why) what later says = tt
-
--- tests that fail
-neither : (a b : Bool) → (a || b) ≡ false → (a ≡ false) × (b ≡ false)
-neither false b is = (refl, is)
-neither true b is = absurd (cc)
-
-holds : (a : Bool) → not a ≡ false → a ≡ true
-holds true is = refl
-holds false is = absurd (cc)
-
-to_eq : (a b : ℕ) → (a == b) ≡ true → a ≡ b
-to_eq a b is = grind (arith, nat_tests)
-
-to_le : (a b : ℕ) → nat_lt a b ≡ false → b ≤ a
-to_le a b is = grind (arith, nat_tests)
-
-to_some : (a : ℕ) → (a == 0) ≡ false → 0 < a
-to_some a is = grind (arith, nat_tests)
+use Rattle.described.proofs.Soundness.{sound-item, neither, holds, to_eq, to_le, to_some}
 
 -- two addresses and a size that pass both tests
 pages : (one other size : ℕ) → is_not_page (one ∷ other ∷ []) size ≡ false → is_too_high (one ∷ other ∷ []) size ≡ false → AreWholePages one size × AreWholePages other size

@@ -3,3 +3,4 @@ pub mod NumberLists
 pub mod Ascending
 pub mod Instances
 pub mod Digits
+pub mod ListTurns

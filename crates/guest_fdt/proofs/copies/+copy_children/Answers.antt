@@ -2,7 +2,8 @@ use Rattle.std.proofs.Common.{◌≡◌, ◌≢◌, [], ◌<◌, length, Some, N
 use Rattle.std.specs.Prelude.{ℕ, Option, IfSome}
 use Rattle.guest_fdt.specs.Copies.{cleaned_in}
 use Rattle.fdt_tree.specs.Document.{place_of}
-use Rattle.guest_fdt.proofs.Copying.{first-below, next-below, IsCopied-start, IsCopied-next, IsCopied-end}
+use Rattle.fdt_nodes.proofs.ChildWalks.{first-below, next-below}
+use Rattle.guest_fdt.proofs.Copying.{IsCopied-start, IsCopied-next, IsCopied-end}
 use Rattle.tree_parts.proofs.Growing.{Grows-live}
 use Rattle.guest_fdt.proofs.copies.+copy_children.Goals as goal
 

@@ -1,6 +1,5 @@
-use Rattle.std.proofs.Common.{sym}
+use Rattle.std.proofs.Common.{sym, Some}
 use Rattle.fdt_tree.specs.Document.{name_of, properties_of, children_of}
-use Rattle.std.proofs.Common.{Some}
 use Rattle.guest_fdt.specs.Copies.{kept, cleaned_in, copied}
 use Rattle.tree_parts.specs.Nodes.{trees_of}
 use Rattle.guest_fdt.proofs.Copying.{copied-none, copied-some}

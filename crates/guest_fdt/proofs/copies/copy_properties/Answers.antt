@@ -4,7 +4,8 @@ use Rattle.fdt_tree.specs.Tree.{Property}
 use Rattle.fdt_tree.specs.Document.{properties_of}
 use Rattle.guest_fdt.specs.Copies.{kept}
 use Rattle.tree_parts.specs.Grown.{with_more}
-use Rattle.guest_fdt.proofs.Copying.{named-at, kept-next}
+use Rattle.guest_fdt.proofs.Copying.{kept-next}
+use Rattle.fdt_nodes.proofs.PropertyNames.{named-at}
 use Rattle.tree_parts.proofs.Growing.{append-nothing, with_more-nothing, with_more-twice}
 use Rattle.guest_fdt.proofs.copies.copy_properties.Goals as goal
 use Rattle.guest_fdt.proofs.copies.copy_properties.Goals.{then-not-is_binding+in_ok-add_prop, else-not-is_binding}

@@ -1,6 +1,6 @@
 use Rattle.std.proofs.Common.{◌≢◌, [], ◌<◌, length}
 use Rattle.fdt_tree.specs.Document.{place_of}
-use Rattle.indexed_tree.proofs.Walks.{first-below, next-below, further, held}
+use Rattle.fdt_nodes.proofs.ChildWalks.{first-below, next-below, further, held}
 use Rattle.indexed_tree.proofs.CopyLemmas.{IsCopied-start, IsCopied-next, IsCopied-end}
 use Rattle.tree_parts.proofs.Growing.{Grows-live}
 use Rattle.indexed_tree.proofs.copies.+copy_children.Goals as goal

@@ -1,7 +1,7 @@
 use Rattle.std.proofs.Common.{◌<◌, ◌≢◌, ◌-◌, [], length}
 use Rattle.std.specs.Prelude.{IfSome}
 use Rattle.fdt_tree.specs.Document.{place_of}
-use Rattle.indexed_tree.proofs.Walks.{numbers_after}
+use Rattle.fdt_nodes.proofs.ChildWalks.{numbers_after}
 use Rattle.indexed_tree.proofs.CopyLemmas.{IsCopied}
 use Rattle.indexed_tree.proofs.copies.+copy_children.Given as goal
 

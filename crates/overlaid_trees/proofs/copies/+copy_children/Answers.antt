@@ -1,7 +1,7 @@
 use Rattle.std.proofs.Common.{◌≢◌, [], ◌<◌, length}
 use Rattle.overlaid_trees.specs.Shift.{moved_in}
 use Rattle.fdt_tree.specs.Document.{place_of}
-use Rattle.overlaid_trees.proofs.Walks.{first-below, next-below, further, held}
+use Rattle.fdt_nodes.proofs.ChildWalks.{first-below, next-below, further, held}
 use Rattle.overlaid_trees.proofs.CopyLemmas.{IsCopied-start, IsCopied-next, IsCopied-end}
 use Rattle.tree_parts.proofs.Growing.{Grows-live}
 use Rattle.overlaid_trees.proofs.copies.+copy_children.Goals as goal

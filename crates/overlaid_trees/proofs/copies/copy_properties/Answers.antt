@@ -4,7 +4,7 @@ use Rattle.std.specs.Int.{w32, to_be_bytes}
 use Rattle.fdt_tree.specs.Tree.{Property}
 use Rattle.fdt_tree.specs.Document.{Document, properties_of}
 use Rattle.overlaid_trees.specs.PrivateCopies.{with_first}
-use Rattle.overlaid_trees.proofs.ShiftLemmas.{named-at}
+use Rattle.fdt_nodes.proofs.PropertyNames.{named-at}
 use Rattle.overlaid_trees.proofs.CopyLemmas.{IsGiven-start, IsGiven-next, IsGiven-end}
 use Rattle.overlaid_trees.proofs.copies.copy_properties.Goals as goal
 

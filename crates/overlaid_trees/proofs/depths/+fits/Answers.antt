@@ -1,5 +1,5 @@
 use Rattle.std.proofs.Common.{◌∙◌, ◌<◌, sym, length}
-use Rattle.overlaid_trees.proofs.Walks.{further, held}
+use Rattle.fdt_nodes.proofs.ChildWalks.{further, held}
 use Rattle.overlaid_trees.proofs.DepthLemmas.{IsMeasured-start, IsMeasured-none, IsMeasured-deep, IsMeasured-next, IsMeasured-end}
 use Rattle.overlaid_trees.proofs.depths.+fits.Goals as goal
 use Rattle.overlaid_trees.proofs.depths.+fits.Goals.{then-room-eq0-via-then-room-eq0, then-room-eq0-via-else-room-eq0+then-not-fits}

@@ -1,6 +1,6 @@
 use Rattle.std.proofs.Common.{◌<◌, ◌-◌, length}
 use Rattle.std.specs.Prelude.{IfSome}
-use Rattle.overlaid_trees.proofs.Walks.{numbers_after}
+use Rattle.fdt_nodes.proofs.ChildWalks.{numbers_after}
 use Rattle.overlaid_trees.proofs.DepthLemmas.{IsMeasured}
 use Rattle.overlaid_trees.proofs.depths.+fits.Given as goal
 

@@ -1,5 +1,5 @@
 use Rattle.std.proofs.Common.{rules, ◌≡◌, ◌<◌, length, inl, inr, refl, Err}
-use Rattle.overlaid_trees.proofs.Walks.{held}
+use Rattle.fdt_nodes.proofs.ChildWalks.{held}
 use Rattle.overlaid_trees.proofs.FragmentLemmas.{IsLeft-start, IsLeft-next, IsLeft-stop}
 use Rattle.overlaid_trees.proofs.fragments.merge.Goals as goal
 

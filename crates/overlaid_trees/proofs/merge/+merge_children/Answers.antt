@@ -3,7 +3,7 @@ use Rattle.std.specs.Prelude.{IsTrue}
 use Rattle.fdt_tree.specs.Tree.{Bytes, is_node_name}
 use Rattle.fdt_tree.specs.Document.{place_of, name_of, properties_of, children_of}
 use Rattle.overlaid_trees.specs.PrivateGrown.{IsOpened}
-use Rattle.overlaid_trees.proofs.Walks.{first-below, next-below, further, held}
+use Rattle.fdt_nodes.proofs.ChildWalks.{first-below, next-below, further, held}
 use Rattle.overlaid_trees.proofs.MergeLemmas.{Changes-child-merged, IsMerged-start, IsMerged-next, IsMerged-end}
 use Rattle.overlaid_trees.proofs.merge.+merge_children.Goals as goal
 

@@ -1,7 +1,7 @@
 use Rattle.std.proofs.Common.{◌<◌, ◌≢◌, ◌-◌, [], length}
 use Rattle.std.specs.Prelude.{IfSome}
 use Rattle.fdt_tree.specs.Document.{place_of}
-use Rattle.overlaid_trees.proofs.Walks.{numbers_after}
+use Rattle.fdt_nodes.proofs.ChildWalks.{numbers_after}
 use Rattle.overlaid_trees.proofs.MergeLemmas.{IsMerged}
 use Rattle.overlaid_trees.proofs.merge.+merge_children.Given as goal
 

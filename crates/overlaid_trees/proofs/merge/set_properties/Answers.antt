@@ -2,7 +2,7 @@ use Rattle.std.proofs.Common.{◌≡◌, ◌∙◌, ap, length, arith, take}
 use Rattle.std.proofs.Math.Seq.{take-length}
 use Rattle.fdt_tree.specs.Document.{place_of, properties_of, with_properties}
 use Rattle.overlaid_trees.specs.Merge.{set_all}
-use Rattle.overlaid_trees.proofs.ShiftLemmas.{named-at}
+use Rattle.fdt_nodes.proofs.PropertyNames.{named-at}
 use Rattle.overlaid_trees.proofs.MergeLemmas.{set-step, set-none}
 use Rattle.overlaid_trees.proofs.merge.set_properties.Goals as goal
 
