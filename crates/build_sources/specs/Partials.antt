@@ -4,7 +4,7 @@ use Rattle.outside.specs.Outside.{File}
 use Rattle.described.specs.declared.loaded.Loaded.{Loaded}
 use Rattle.fdt_tree.specs.Tree.{Tree}
 use Rattle.domain_bindings.specs.Domains.{guest_nodes, partial_of}
-use Rattle.tree_plan.specs.Descriptions.{Description}
+use Rattle.domain_bindings.specs.Descriptions.{Description}
 use Rattle.dom0less_words.specs.Words.{Word}
 use Rattle.run_steps.specs.Endings.{Outcome}
 use Rattle.run_steps.specs.Names.{joined}

@@ -1,7 +1,7 @@
 // The guests' partial device trees.
 ghost use Rattle.std.specs.Prelude.{◌≡◌, IfOk, IfErr, map, option_map, take};
 ghost use Rattle.std.specs.Option.{option_copied};
-ghost use Rattle.tree_plan.specs.Descriptions.{description_of, trees_in};
+ghost use Rattle.domain_bindings.specs.Descriptions.{description_of, trees_in};
 ghost use Rattle.run_steps.specs.Steps.{AfterEach, nothing};
 ghost use Rattle.run_steps.specs.Stops.{IsDue, Grew};
 ghost use Rattle.build_sources.specs.Handed.{HandsOn};

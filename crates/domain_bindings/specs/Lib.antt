@@ -1,4 +1,5 @@
 pub mod Assured
+pub mod Descriptions
 pub mod Domains
 pub mod Heads
 pub mod Hosts

@@ -1,11 +1,9 @@
--- What is described: a host's device tree, what is reserved beside it, the files that were loaded, and the partial device
--- trees of the guests; and the host and the guests that it describes (Xen, docs/misc/arm/device-tree/booting.txt).
-use Rattle.std.specs.Prelude.{ℕ, ◌+◌, ◌==◌, if◌then◌else◌, List, [], ◌∷◌, Option, None, Some, slice_get, option_and_then, option_map, map}
+-- The host and the guests that a description describes (Xen, docs/misc/arm/device-tree/booting.txt).
+use Rattle.std.specs.Prelude.{ℕ, ◌+◌, ◌==◌, if◌then◌else◌, List, [], ◌∷◌, Option, None, Some, slice_get, option_and_then}
 use Rattle.texts.specs.declared.ranges.FrameRange.{FrameRange}
 use Rattle.fdt_tree.specs.Tree.{Tree}
-use Rattle.fdt_tree.specs.Document.{Document}
-use Rattle.fdt_tree.specs.declared.reserve.Reserve.{Reserve}
 use Rattle.fdt_nodes.specs.Nodes.{Node, shown}
+pub use Rattle.domain_bindings.specs.Descriptions.{Description, description_of, trees_in}
 use Rattle.domain_bindings.specs.Domains.{guest_nodes, domain_items, bootargs_of, partial_of, said_cpus, said_pages, said_spis, said_direct, said_console}
 use Rattle.domain_bindings.specs.Heads.{head_item, is_past_limit}
 use Rattle.domain_bindings.specs.HostDevices.{areas_of, console_of}
@@ -18,24 +16,8 @@ use Rattle.passthrough_dtb.specs.Items.{partial_items}
 use Rattle.static_links.specs.Ports.{port_items}
 use Rattle.static_links.specs.Shared.{shared_items}
 use Rattle.domain_plan.specs.declared.guests.Guest.{Guest}
-use Rattle.described.specs.declared.loaded.Loaded.{Loaded}
 use Rattle.domain_plan.specs.declared.guests.PartialState.{PartialState}
 use Rattle.domain_plan.specs.declared.guests.PartialState.TheVariants as states
-
--- the host's tree, its reservations, the loaded files, and for each guest its partial tree, where it was read
-pub record Description : Type 0 where
-  pub root : Tree
-  pub reserves : List Reserve
-  pub loads : List Loaded
-  pub partials : List (Option Tree)
-
--- partial trees in memory as trees
-abbrev pub trees_in : List (Option Document) → List (Option Tree)
-trees_in partials = map (λ (partial : Option Document). option_map (λ (document : Document). document.tree) partial) partials
-
--- what trees in memory describe
-abbrev pub description_of : Document → List Reserve → List Loaded → List (Option Document) → Description
-description_of document reserves loads partials = record { root = document.tree; reserves = reserves; loads = loads; partials = trees_in partials }
 
 -- a frame before ranges of frames
 abbrev pub with_frame : ℕ → List FrameRange → List FrameRange

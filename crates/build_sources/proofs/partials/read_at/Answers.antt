@@ -3,7 +3,7 @@ use Rattle.std.proofs.lemmas.List.{map-append}
 use Rattle.std.specs.Prelude.{option_map}
 use Rattle.std.specs.Option.{option_copied}
 use Rattle.fdt_tree.specs.Document.{Document}
-use Rattle.tree_plan.specs.Descriptions.{trees_in}
+use Rattle.domain_bindings.specs.Descriptions.{trees_in}
 use Rattle.run_steps.specs.Steps.{nothing}
 use Rattle.run_steps.proofs.Due.{due_later, grew_twice}
 use Rattle.build_sources.specs.Partials.{AfterPartial}

@@ -1,6 +1,6 @@
 use Rattle.std.proofs.Common.{◌≡◌, take}
 use Rattle.std.specs.Option.{option_copied}
-use Rattle.tree_plan.specs.Descriptions.{trees_in}
+use Rattle.domain_bindings.specs.Descriptions.{trees_in}
 use Rattle.run_steps.specs.Steps.{GiveEach}
 use Rattle.run_steps.specs.Stops.{Grew}
 use Rattle.build_sources.specs.Handed.{HandsOn}

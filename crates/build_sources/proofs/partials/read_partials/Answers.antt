@@ -1,5 +1,5 @@
 use Rattle.std.specs.Option.{option_copied}
-use Rattle.tree_plan.specs.Descriptions.{trees_in}
+use Rattle.domain_bindings.specs.Descriptions.{trees_in}
 use Rattle.run_steps.specs.Steps.{AfterEach, nothing}
 use Rattle.build_sources.specs.Handed.{HandsOn}
 use Rattle.build_sources.specs.Meant.{meant_stand}
