@@ -4,9 +4,9 @@ use Rattle.std.specs.Prelude.{Option, Result, Ok, Err, nat_lt, if◌then◌else�
 use Rattle.std.specs.Option.{option_or}
 use Rattle.described.specs.declared.item.Item.{Item}
 use Rattle.described.specs.declared.why.Why.{Why}
-use Rattle.domain_plan.specs.Refusals.{Refusal, or_later}
-use Rattle.domain_plan.specs.declared.planned.PlanFault.{PlanFault}
-use Rattle.domain_plan.specs.declared.planned.PlanFault.TheVariants as plan_faults
+use Rattle.item_checks.specs.Refusals.{Refusal, or_later}
+use Rattle.item_checks.specs.declared.faults.PlanFault.{PlanFault}
+use Rattle.item_checks.specs.declared.faults.PlanFault.TheVariants as plan_faults
 use Rattle.fdt_write.specs.Flattened.{length_limit}
 use Rattle.guest_images.specs.Faults as images
 use Rattle.guest_images.specs.Requests.{refused_tables}

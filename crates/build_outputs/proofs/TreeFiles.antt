@@ -4,7 +4,7 @@ use Rattle.std.specs.Prelude.{◌⊎◌, Option, slice_get}
 use Rattle.std.proofs.lemmas.List.{take_more, take_all, take-append-drop, length-take-le}
 use Rattle.outside.specs.Outside.{File}
 use Rattle.described.specs.declared.why.Why.{Why}
-use Rattle.domain_plan.specs.Refusals.{or_later}
+use Rattle.item_checks.specs.Refusals.{or_later}
 use Rattle.domain_plan.specs.declared.planned.GuestPlan.{GuestPlan}
 use Rattle.fdt_tree.specs.Tree.{Tree}
 use Rattle.fdt_write.specs.Flattened.{length_limit}

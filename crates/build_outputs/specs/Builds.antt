@@ -2,7 +2,7 @@
 use Rattle.std.specs.Prelude.{ℕ, Option, Some, None, Result, Ok, Err}
 use Rattle.std.specs.Option.{option_or}
 use Rattle.outside.specs.declared.status.Status.TheVariants as statuses
-use Rattle.domain_plan.specs.Refusals.{Refusal}
+use Rattle.item_checks.specs.Refusals.{Refusal}
 use Rattle.guest_images.specs.Requests.{refused_tables}
 use Rattle.run_steps.specs.Endings.{Outcome}
 use Rattle.run_steps.specs.Messages.{refused_message}

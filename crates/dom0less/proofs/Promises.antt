@@ -4,7 +4,7 @@ use Rattle.std.specs.Prelude.{◌⊎◌, Option, Some, Result, Ok, Err, IfErr}
 use Rattle.outside.specs.Outside.{File}
 use Rattle.outside.specs.declared.status.Status.{Status}
 use Rattle.outside.specs.declared.status.Status.TheVariants as statuses
-use Rattle.domain_plan.specs.Refusals.{Refusal}
+use Rattle.item_checks.specs.Refusals.{Refusal}
 use Rattle.fdt_listing.specs.Listing.{listing}
 use Rattle.run_steps.specs.Endings.{Refuses, Builds}
 use Rattle.run_steps.specs.Messages.{refused_message}

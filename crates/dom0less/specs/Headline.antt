@@ -1,7 +1,7 @@
 -- What status 0 promises of what was written, and what a refusal names.
 use Rattle.std.specs.Prelude.{◌≡◌, ◌++◌, ℕ, List, [], length, Option, Ok, Err}
 use Rattle.outside.specs.Outside.{File}
-use Rattle.domain_plan.specs.Refusals.{Refusal}
+use Rattle.item_checks.specs.Refusals.{Refusal}
 use Rattle.fdt_listing.specs.Listing.{listing}
 use Rattle.outside.specs.declared.status.Status.TheVariants as statuses
 use Rattle.run_steps.specs.Endings.{Refuses}

@@ -1,7 +1,6 @@
 pub mod Apart
 pub mod Arguments
 pub mod Draws
-pub mod Entries
 pub mod GuestMaps
 pub mod MapOrder
 pub mod Memories
@@ -9,10 +8,4 @@ pub mod Plans
 pub mod PrivateGiving
 pub mod PrivateLaying
 pub mod PrivateRuns
-pub mod PrivateStanding
-pub mod PrivateTakings
-pub mod Reasons
-pub mod Refusals
 pub mod Regions
-pub mod Taken
-pub mod Layouts

@@ -13,13 +13,13 @@ use Rattle.domain_bindings.specs.Domains.{guest_nodes}
 use Rattle.domain_bindings.specs.Heads.{head_item, head_reason, head_what, is_past_limit}
 use Rattle.domain_bindings.proofs.Sound.{own-described}
 use Rattle.domain_bindings.specs.declared.host.Host.{Host}
-use Rattle.domain_plan.specs.declared.guests.Guest.{Guest}
+use Rattle.item_checks.specs.declared.guests.Guest.{Guest}
 use Rattle.domain_plan.specs.declared.planned.GuestPlan.{GuestPlan}
 use Rattle.domain_plan.specs.Arguments.{has_no_fault}
-use Rattle.domain_plan.specs.Entries.{Entry, joined, of_host, load_item, guest_entries}
+use Rattle.item_checks.specs.Entries.{Entry, joined, of_host, load_item, guest_entries}
 use Rattle.domain_plan.specs.Plans.{Draws, outcome}
-use Rattle.domain_plan.specs.Refusals.{Refusal}
-use Rattle.domain_plan.specs.Taken.{Passed}
+use Rattle.item_checks.specs.Refusals.{Refusal}
+use Rattle.item_checks.specs.Taken.{Passed}
 use Rattle.domain_plan.proofs.ApartLemmas.{outcome_tells}
 use Rattle.domain_plan.proofs.HeadLemmas.{no_own}
 use Rattle.domain_plan.proofs.OwnItems.{own_entries}

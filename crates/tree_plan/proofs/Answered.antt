@@ -4,13 +4,13 @@ use Rattle.described.specs.Maps.{AreMapRanges, AreMerged}
 use Rattle.described.specs.declared.item.Item.{Item}
 use Rattle.described.specs.declared.why.Why.{Why}
 use Rattle.domain_bindings.specs.declared.host.Host.{Host}
-use Rattle.domain_plan.specs.declared.guests.Guest.{Guest}
+use Rattle.item_checks.specs.declared.guests.Guest.{Guest}
 use Rattle.domain_plan.specs.declared.planned.GuestPlan.{GuestPlan}
 use Rattle.domain_plan.specs.declared.planned.Plan.{Plan}
-use Rattle.domain_plan.specs.declared.planned.PlanFault.{PlanFault}
-use Rattle.domain_plan.specs.declared.planned.PlanFault.TheVariants as faults
+use Rattle.item_checks.specs.declared.faults.PlanFault.{PlanFault}
+use Rattle.item_checks.specs.declared.faults.PlanFault.TheVariants as faults
 use Rattle.domain_plan.specs.Plans.{Draws, placed_of, outcome, AreGuestPlans}
-use Rattle.guest_images.specs.Walks.{ArePlannedApart}
+use Rattle.domain_plan.specs.Apart.{ArePlannedApart}
 use Rattle.tree_plan.specs.Descriptions.{Description}
 use Rattle.tree_plan.specs.TreePlans.{IsFaultOf, is_common, plan_of}
 use Rattle.tree_plan.proofs.Apart.{tree_apart}

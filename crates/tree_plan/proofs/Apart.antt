@@ -7,14 +7,13 @@ use Rattle.described.specs.Maps.{Target, target_of}
 use Rattle.texts.specs.declared.ranges.FrameRange.{FrameRange}
 use Rattle.frame_alloc.specs.Frames.{AreFrames}
 use Rattle.domain_bindings.specs.declared.host.Host.{Host}
-use Rattle.domain_plan.specs.declared.guests.Guest.{Guest}
+use Rattle.item_checks.specs.declared.guests.Guest.{Guest}
 use Rattle.domain_plan.specs.declared.planned.GuestPlan.{GuestPlan}
-use Rattle.domain_plan.specs.Apart.{AreApart, is_in_one_region}
+use Rattle.domain_plan.specs.Apart.{AreApart, is_in_one_region, ArePlannedApart, target_in}
 use Rattle.domain_plan.specs.GuestMaps.{guest_ranges}
 use Rattle.domain_plan.specs.Plans.{Draws, placed_of, outcome, AreGuestPlans}
-use Rattle.domain_plan.specs.Taken.{Passed}
+use Rattle.item_checks.specs.Taken.{Passed}
 use Rattle.domain_plan.proofs.PlacedLaws.{guests_are_apart}
-use Rattle.guest_images.specs.Walks.{ArePlannedApart, target_in}
 use Rattle.tree_plan.specs.Descriptions.{Description}
 use Rattle.tree_plan.specs.TreePlans.{is_common}
 use Rattle.tree_plan.proofs.Determined.{AreOf, are_read, passed_same}

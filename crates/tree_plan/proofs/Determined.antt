@@ -16,18 +16,18 @@ use Rattle.domain_bindings.specs.Hosts.{host_items, dom0_items, ram_regions}
 use Rattle.domain_bindings.specs.Ram.{IsRam}
 use Rattle.domain_bindings.proofs.HostDeviceLemmas.{areas-usable, console-usable}
 use Rattle.domain_bindings.proofs.RamLemmas.{AreFrameRanges-merged}
-use Rattle.domain_plan.specs.declared.guests.Guest.{Guest}
+use Rattle.item_checks.specs.declared.guests.Guest.{Guest}
 use Rattle.described.specs.declared.loaded.Loaded.{Loaded}
 use Rattle.domain_plan.specs.declared.planned.GuestPlan.{GuestPlan}
 use Rattle.domain_plan.specs.Arguments.{AreRead}
-use Rattle.domain_plan.specs.Entries.{of_guest, is_read, items_of}
+use Rattle.item_checks.specs.Entries.{of_guest, is_read, items_of}
 use Rattle.domain_plan.specs.GuestMaps.{guest_ranges}
 use Rattle.domain_plan.specs.PrivateLaying.{AreApart, AreLowRanges}
 use Rattle.domain_plan.specs.MapOrder.{in_order, joined_ranges}
 use Rattle.domain_plan.specs.Plans.{Draws, placed_of, outcome, gic_of, memories_of, spis_of, said_by, region_of, IsGuestPlan, AreGuestPlans}
-use Rattle.domain_plan.specs.Reasons.{layout_at}
-use Rattle.domain_plan.specs.Refusals.{Refusal}
-use Rattle.domain_plan.specs.Taken.{Passed, all_passed}
+use Rattle.item_checks.specs.Reasons.{layout_at}
+use Rattle.item_checks.specs.Refusals.{Refusal}
+use Rattle.item_checks.specs.Taken.{Passed, all_passed}
 use Rattle.domain_plan.proofs.ApartLemmas.{outcome_tells}
 use Rattle.domain_plan.proofs.MapResult.{map_result}
 use Rattle.domain_plan.proofs.OwnItems.{same_ranges}

@@ -12,9 +12,9 @@ use Rattle.domain_bindings.specs.Results.{AreDomains, domain_at, domains_at}
 use Rattle.domain_bindings.specs.declared.domain.Domain.{Domain}
 use Rattle.static_links.specs.Ports.{port_items}
 use Rattle.static_links.specs.Shared.{shared_items}
-use Rattle.domain_plan.specs.declared.guests.Guest.{Guest}
+use Rattle.item_checks.specs.declared.guests.Guest.{Guest}
 use Rattle.described.specs.declared.loaded.Loaded.{Loaded}
-use Rattle.domain_plan.specs.declared.guests.PartialState.TheVariants as states
+use Rattle.item_checks.specs.declared.guests.PartialState.TheVariants as states
 use Rattle.tree_plan.specs.Descriptions.{description_of, domain_of, guest_of, guests_from, guests_of, partial_at, partial_state, trees_in}
 use Rattle.tree_plan.specs.PrivateHeldGuests.{held_guest, unheld}
 

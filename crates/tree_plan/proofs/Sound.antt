@@ -28,11 +28,11 @@ use Rattle.static_links.specs.Ports.{port_items}
 use Rattle.static_links.specs.Shared.{shared_items}
 use Rattle.passthrough_dtb.proofs.Soundness.{sound_items}
 use Rattle.static_links.proofs.Soundness.{sound_shared, sound_ports}
-use Rattle.domain_plan.specs.declared.guests.Guest.{Guest}
+use Rattle.item_checks.specs.declared.guests.Guest.{Guest}
 use Rattle.described.specs.declared.loaded.Loaded.{Loaded}
-use Rattle.domain_plan.specs.declared.guests.PartialState.TheVariants as states
+use Rattle.item_checks.specs.declared.guests.PartialState.TheVariants as states
 use Rattle.domain_plan.specs.Arguments.{AreSound}
-use Rattle.domain_plan.specs.Entries.{Entry, joined, of_host, of_guest, items_of, is_read, load_item, guest_entries, partial_items}
+use Rattle.item_checks.specs.Entries.{Entry, joined, of_host, of_guest, items_of, is_read, load_item, guest_entries, partial_items}
 use Rattle.tree_plan.specs.Descriptions.{Description, host_of, domain_of, guest_of, guests_of, guests_from, partial_state, partial_at}
 
 -- what is said of an item, where what follows is weakened

@@ -33,10 +33,10 @@ use Rattle.passthrough_dtb.specs.Ranges as ranges
 use Rattle.static_links.specs.Channels.{Channel, Ends, ends_of, event_channel, other_end}
 use Rattle.static_links.specs.Ports.{linked_to, port_item, port_items, port_reason, port_what, ports_after}
 use Rattle.static_links.specs.Shared.{children_with, region, is_owner, shared_from, shared_id, shared_item, shared_items, shared_memory, shared_reason, shared_what}
-use Rattle.domain_plan.specs.declared.guests.Guest.{Guest}
+use Rattle.item_checks.specs.declared.guests.Guest.{Guest}
 use Rattle.domain_plan.specs.Arguments.{IsSoundGuest, head_of, has_no_fault}
-use Rattle.domain_plan.specs.Entries.{Entry, joined, of_host, of_guest, items_of, is_read, load_item, guest_entries, partial_items}
-use Rattle.domain_plan.specs.Taken.{static_pages}
+use Rattle.item_checks.specs.Entries.{Entry, joined, of_host, of_guest, items_of, is_read, load_item, guest_entries, partial_items}
+use Rattle.item_checks.specs.Taken.{static_pages}
 use Rattle.frame_ranges.specs.Ranges.{touched}
 use Rattle.domain_plan.proofs.MapLemmas.{touched_whole}
 use Rattle.tree_plan.specs.Descriptions.{Description, host_of, domain_of, guest_of, guests_of, guests_from, partial_state, partial_at}

@@ -4,16 +4,16 @@ use Rattle.std.proofs.lemmas.List.Elements.{All-nil, All-cons, All-head, All-tai
 use Rattle.texts.specs.declared.ranges.FrameRange.{FrameRange}
 use Rattle.described.specs.declared.why.Why.TheVariants.{NoRam}
 use Rattle.domain_bindings.specs.declared.host.Host.{Host}
-use Rattle.domain_plan.specs.declared.guests.Guest.{Guest}
+use Rattle.item_checks.specs.declared.guests.Guest.{Guest}
 use Rattle.described.specs.declared.loaded.Loaded.{Loaded}
 use Rattle.domain_plan.specs.declared.planned.GuestPlan.{GuestPlan}
 use Rattle.domain_plan.specs.Arguments.{AreRead, AreSound, IsSoundGuest, has_no_fault}
 use Rattle.domain_plan.specs.Draws.{Drawn, Heaps, drawn, heaps, and_drawn, heap_item, free_frames}
-use Rattle.domain_plan.specs.Entries.{Entry, joined, of_host, of_guest, items_of, is_read, load_item, guest_entries}
-use Rattle.domain_plan.specs.Plans.{passed_of, placed_of, and_heaps, draws_after, draws, outcome, unless_refused, IsGuestPlan, AreGuestPlans}
-use Rattle.domain_plan.specs.Refusals.{Refusal, why, or_later, first_refused}
+use Rattle.item_checks.specs.Entries.{Entry, joined, of_host, of_guest, items_of, is_read, load_item, guest_entries}
+use Rattle.item_checks.specs.Taken.{passed_of, Passed, passing, all_passed}
+use Rattle.domain_plan.specs.Plans.{placed_of, and_heaps, draws_after, draws, outcome, unless_refused, IsGuestPlan, AreGuestPlans}
+use Rattle.item_checks.specs.Refusals.{Refusal, why, or_later, first_refused}
 use Rattle.domain_plan.specs.Regions.{Runs, requests, runs_drawn, placed}
-use Rattle.domain_plan.specs.Taken.{Passed, passing, all_passed}
 use Rattle.domain_plan.specs.declared.runs.Run.{Run}
 use Rattle.tree_plan.specs.PrivateHeldGuests.{unheld, unheld_host}
 

@@ -15,9 +15,9 @@ use Rattle.passthrough_dtb.specs.Gic.{guest_gic}
 use Rattle.passthrough_dtb.specs.Items.{partial_items}
 use Rattle.static_links.specs.Ports.{port_items}
 use Rattle.static_links.specs.Shared.{shared_items}
-use Rattle.domain_plan.specs.declared.guests.Guest.{Guest}
-use Rattle.domain_plan.specs.declared.guests.PartialState.{PartialState}
-use Rattle.domain_plan.specs.declared.guests.PartialState.TheVariants as states
+use Rattle.item_checks.specs.declared.guests.Guest.{Guest}
+use Rattle.item_checks.specs.declared.guests.PartialState.{PartialState}
+use Rattle.item_checks.specs.declared.guests.PartialState.TheVariants as states
 
 -- a frame before ranges of frames
 abbrev pub with_frame : ℕ → List FrameRange → List FrameRange

@@ -8,8 +8,8 @@ use Rattle.domain_bindings.specs.declared.domain.Domain.{Domain}
 use Rattle.domain_bindings.specs.declared.host.Host.{Host}
 use Rattle.static_links.specs.Ports.{port_items}
 use Rattle.static_links.specs.Shared.{shared_items}
-use Rattle.domain_plan.specs.declared.guests.Guest.{Guest}
-use Rattle.domain_plan.specs.declared.guests.PartialState.TheVariants as states
+use Rattle.item_checks.specs.declared.guests.Guest.{Guest}
+use Rattle.item_checks.specs.declared.guests.PartialState.TheVariants as states
 use Rattle.tree_plan.specs.Descriptions.{partial_state, partial_at}
 
 -- the guest of a domain whose node is held

@@ -2,18 +2,18 @@
 use Rattle.std.specs.Prelude.{◌≡◌, ℕ, ◌+◌, Bool, List, [], ◌∷◌, Some, Result, Ok, Err}
 use Rattle.texts.specs.declared.ranges.FrameRange.{FrameRange}
 use Rattle.domain_bindings.specs.declared.host.Host.{Host}
-use Rattle.domain_plan.specs.declared.guests.Guest.{Guest}
+use Rattle.item_checks.specs.declared.guests.Guest.{Guest}
 use Rattle.domain_plan.specs.declared.planned.GuestPlan.{GuestPlan}
-use Rattle.domain_plan.specs.declared.planned.PlanFault.{PlanFault}
-use Rattle.domain_plan.specs.declared.planned.PlanFault.TheVariants as faults
+use Rattle.item_checks.specs.declared.faults.PlanFault.{PlanFault}
+use Rattle.item_checks.specs.declared.faults.PlanFault.TheVariants as faults
 use Rattle.domain_plan.specs.declared.runs.Run.{Run}
 use Rattle.domain_plan.specs.Apart.{is_in_one_region}
 use Rattle.domain_plan.specs.GuestMaps.{guest_ranges}
 use Rattle.domain_plan.specs.MapOrder.{in_order, joined_ranges}
 use Rattle.domain_plan.specs.Plans.{Draws, placed_of, outcome, memories_of, spis_of, region_of, port_of, gic_of, said_by}
-use Rattle.domain_plan.specs.Reasons.{layout_at}
-use Rattle.domain_plan.specs.Refusals.{Refusal}
-use Rattle.domain_plan.specs.Taken.{Passed}
+use Rattle.item_checks.specs.Reasons.{layout_at}
+use Rattle.item_checks.specs.Refusals.{Refusal}
+use Rattle.item_checks.specs.Taken.{Passed}
 use Rattle.tree_plan.specs.Descriptions.{Description, host_of, guests_of}
 
 -- what a guest is given, by the host, by all items with what they take, and by the frames that it drew: its ranges by page, those that run on joined

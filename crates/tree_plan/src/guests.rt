@@ -5,8 +5,8 @@ ghost use Rattle.tree_plan.specs.Descriptions.{guests_from, partial_at, partial_
 ghost use Rattle.tree_plan.specs.PrivateHeldGuests.{held_guest, unheld};
 
 use domain_bindings::{Domain, read_domains};
-use domain_plan::{Guest, PartialState};
 use fdt_tree::Tree;
+use item_checks::{Guest, PartialState};
 use passthrough_dtb::read_partial;
 use static_links::{read_ports, read_shared};
 use std::alloc::{AllocError, Global};
