@@ -16,8 +16,8 @@ use Rattle.run_steps.specs.Steps.{OnResult, nothing}
 use Rattle.run_steps.specs.Stops.{IsOwnDue}
 use Rattle.run_steps.specs.declared.stop.Stop.{Stop}
 use Rattle.run_steps.specs.declared.stop.Stop.TheVariants as stops
-use Rattle.tree_plan.specs.Descriptions.{Description}
-use Rattle.tree_plan.specs.TreePlans.{TreePlan, plan_of, IsFaultOf}
+use Rattle.domain_plan.specs.Descriptions.{Description}
+use Rattle.domain_plan.specs.TreePlans.{TreePlan, plan_of, IsFaultOf}
 use Rattle.build_outputs.specs.Builds.{last_refused, unless_refused, with_last, built_of, IsItemRefusal, AfterItems}
 use Rattle.build_outputs.specs.Lengths.{tree_item, too_long, tree_too_long, refused_trees}
 use Rattle.build_outputs.specs.Names.{host_name}

@@ -19,8 +19,8 @@ use Rattle.run_steps.specs.declared.stop.Stop.{Stop}
 use Rattle.run_steps.specs.declared.stop.Stop.TheVariants as stops
 use Rattle.run_steps.proofs.Due.{due_here, due_anyway, stopped_later, due_later}
 use Rattle.run_steps.proofs.Step.{IsStep, on_result_step}
-use Rattle.tree_plan.specs.Descriptions.{Description}
-use Rattle.tree_plan.specs.TreePlans.{TreePlan, plan_of, is_common, IsFaultOf}
+use Rattle.domain_plan.specs.Descriptions.{Description}
+use Rattle.domain_plan.specs.TreePlans.{TreePlan, plan_of, is_common, IsFaultOf}
 use Rattle.dom0less_words.specs.Words.{Word, Source}
 use Rattle.build_sources.specs.Sources.{Stand, AfterSource, StandsOn, folder_of}
 use Rattle.build_sources.specs.Partials.{AfterPartials, Describes}

@@ -15,8 +15,8 @@ use Rattle.run_steps.specs.declared.stop.Stop.TheVariants.{Because}
 use Rattle.run_steps.specs.Trees.{AfterTreeFile, IsTreeFile}
 use Rattle.run_steps.proofs.Step.{found_by}
 use Rattle.run_steps.proofs.ReadingSteps.{tree_file_step}
-use Rattle.tree_plan.specs.Descriptions.{Description}
-use Rattle.tree_plan.specs.TreePlans.{TreePlan}
+use Rattle.domain_plan.specs.Descriptions.{Description}
+use Rattle.domain_plan.specs.TreePlans.{TreePlan}
 use Rattle.dom0less_words.specs.Words.{Word, Source, Config, Replay, Ready, ScriptAsked, Asked, Build}
 use Rattle.dom0less_words.specs.Settings.{settings}
 use Rattle.build_sources.specs.Configs.{Made, AfterMade, IsMade}

@@ -1,11 +1,14 @@
 pub mod Apart
 pub mod Arguments
+pub mod Descriptions
 pub mod Draws
 pub mod GuestMaps
 pub mod MapOrder
 pub mod Memories
 pub mod Plans
 pub mod PrivateGiving
+pub mod PrivateHeldGuests
 pub mod PrivateLaying
 pub mod PrivateRuns
 pub mod Regions
+pub mod TreePlans

@@ -21,8 +21,8 @@ use Rattle.domain_plan.proofs.OwnItems.{own_entries}
 use Rattle.domain_plan.proofs.SpiLemmas.{filter_same, irqs_tell}
 use Rattle.static_links.specs.Ports.{port_items}
 use Rattle.static_links.specs.Shared.{shared_items}
-use Rattle.tree_plan.specs.Descriptions.{partial_state}
-use Rattle.tree_plan.proofs.Sound.{full}
+use Rattle.domain_plan.specs.Descriptions.{partial_state}
+use Rattle.domain_plan.proofs.Sound.{full}
 use Rattle.guest_fdt.specs.Copies.{copied_paths, found_in}
 use Rattle.guest_fdt.specs.Described.{partial_devices}
 use Rattle.guest_fdt.specs.Laws.{is_no_memory}

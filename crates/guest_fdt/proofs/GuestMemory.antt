@@ -34,8 +34,8 @@ use Rattle.item_checks.specs.Entries.{partial_items}
 use Rattle.domain_plan.specs.Memories.{HasOneKindOfMemory}
 use Rattle.item_checks.specs.Taken.{says_direct, static_pages}
 use Rattle.domain_plan.proofs.MemoryLemmas.{whats_in}
-use Rattle.tree_plan.specs.Descriptions.{partial_state}
-use Rattle.tree_plan.proofs.Sound.{full}
+use Rattle.domain_plan.specs.Descriptions.{partial_state}
+use Rattle.domain_plan.proofs.Sound.{full}
 use Rattle.guest_fdt.proofs.GuestFits.{head_is_covered}
 use Rattle.guest_fdt.proofs.GuestItems.{own_rest, rest_items, each_of_own, each_of_partial, each_of_ports, each_of_rest, each_of_shared}
 

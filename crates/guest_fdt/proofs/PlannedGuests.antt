@@ -23,9 +23,9 @@ use Rattle.item_checks.specs.Taken.{Passed}
 use Rattle.domain_plan.proofs.ApartLemmas.{outcome_tells}
 use Rattle.domain_plan.proofs.HeadLemmas.{no_own}
 use Rattle.domain_plan.proofs.OwnItems.{own_entries}
-use Rattle.tree_plan.specs.Descriptions.{Description, host_of, guest_of, guests_of, guests_from, partial_at}
-use Rattle.tree_plan.specs.TreePlans.{TreePlan, guest_plan, guest_plans, items_in, plan_from, plan_of}
-use Rattle.tree_plan.proofs.Sound.{full, bare}
+use Rattle.domain_plan.specs.Descriptions.{Description, host_of, guest_of, guests_of, guests_from, partial_at}
+use Rattle.domain_plan.specs.TreePlans.{TreePlan, guest_plan, guest_plans, items_in, plan_from, plan_of}
+use Rattle.domain_plan.proofs.Sound.{full, bare}
 use Rattle.guest_fdt.proofs.GuestFits.{head_is_within}
 
 -- ---- what the plan of a guest comes from

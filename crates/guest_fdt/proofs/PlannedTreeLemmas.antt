@@ -32,10 +32,10 @@ use Rattle.domain_plan.proofs.OwnItems.{own_entries, own_of, own_passed, same_ra
 use Rattle.domain_plan.proofs.PlacedGuests.{placed_guest, items_placed, whats_of_placed, guest_sound}
 use Rattle.domain_plan.proofs.PlacedLaws.{memory_is_mapped, ready_guest, own_guest}
 use Rattle.domain_plan.proofs.Placing.{kept_what}
-use Rattle.tree_plan.specs.Descriptions.{Description, host_of, guests_of, partial_at}
-use Rattle.tree_plan.specs.TreePlans.{TreePlan, guest_plan, runs_in, items_in, plan_of}
-use Rattle.tree_plan.proofs.Determined.{description_read}
-use Rattle.tree_plan.proofs.Sound.{full}
+use Rattle.domain_plan.specs.Descriptions.{Description, host_of, guests_of, partial_at}
+use Rattle.domain_plan.specs.TreePlans.{TreePlan, guest_plan, runs_in, items_in, plan_of}
+use Rattle.domain_plan.proofs.Determined.{description_read}
+use Rattle.domain_plan.proofs.Sound.{full}
 use Rattle.guest_fdt.specs.Bounds.{IsBounded}
 use Rattle.guest_fdt.specs.Laws.{IsDescription}
 use Rattle.guest_fdt.specs.PlannedTrees.{AllGuestsAreListed}

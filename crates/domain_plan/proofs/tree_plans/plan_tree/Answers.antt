@@ -1,8 +1,8 @@
-use Rattle.tree_plan.specs.Descriptions.{description_of}
-use Rattle.tree_plan.proofs.Answered.{planned, refused, sorted, merged, apart}
-use Rattle.tree_plan.proofs.Determined.{are_of, are_read}
-use Rattle.tree_plan.proofs.HeldLemmas.{described_guests}
-use Rattle.tree_plan.proofs.plan.plan_tree.Goals as goal
+use Rattle.domain_plan.specs.Descriptions.{description_of}
+use Rattle.domain_plan.proofs.Answered.{planned, refused, sorted, merged, apart}
+use Rattle.domain_plan.proofs.Determined.{are_of, are_read}
+use Rattle.domain_plan.proofs.HeldLemmas.{described_guests}
+use Rattle.domain_plan.proofs.tree_plans.plan_tree.Goals as goal
 
 pub plan-requires : goal.plan-requires
 plan-requires c =

@@ -14,9 +14,9 @@ use Rattle.domain_plan.specs.GuestMaps.{guest_ranges}
 use Rattle.domain_plan.specs.Plans.{Draws, placed_of, outcome, AreGuestPlans}
 use Rattle.item_checks.specs.Taken.{Passed}
 use Rattle.domain_plan.proofs.PlacedLaws.{guests_are_apart}
-use Rattle.tree_plan.specs.Descriptions.{Description}
-use Rattle.tree_plan.specs.TreePlans.{is_common}
-use Rattle.tree_plan.proofs.Determined.{AreOf, are_read, passed_same}
+use Rattle.domain_plan.specs.Descriptions.{Description}
+use Rattle.domain_plan.specs.TreePlans.{is_common}
+use Rattle.domain_plan.proofs.Determined.{AreOf, are_read, passed_same}
 
 -- where a guest's plan sends a page, its description does
 abbrev IsSent : List Passed → ℕ → Option (List FrameRange) → ℕ → Target → Type 0

@@ -6,7 +6,7 @@ use Rattle.texts.specs.Consecutive.{numbers}
 use Rattle.texts.specs.declared.ranges.FrameRange.{FrameRange}
 use Rattle.frame_alloc.specs.Frames.{frames_in}
 use Rattle.domain_bindings.specs.Ram.{AreMergedFrom}
-use Rattle.tree_plan.specs.Descriptions.{with_frame, frames_as_ranges}
+use Rattle.domain_plan.specs.Descriptions.{with_frame, frames_as_ranges}
 
 -- the first of the ranges, where there is one, begins past a frame
 abbrev BeginPast : ℕ → List FrameRange → Type 0

@@ -1,8 +1,8 @@
 //! The guests of a host's tree, with their partial trees and what they share.
 ghost use Rattle.std.specs.Prelude.{◌≡◌, ◌<◌, IfOk, length, map};
 ghost use Rattle.domain_bindings.specs.Domains.{guest_nodes};
-ghost use Rattle.tree_plan.specs.Descriptions.{guests_from, partial_at, partial_state, trees_in};
-ghost use Rattle.tree_plan.specs.PrivateHeldGuests.{held_guest, unheld};
+ghost use Rattle.domain_plan.specs.Descriptions.{guests_from, partial_at, partial_state, trees_in};
+ghost use Rattle.domain_plan.specs.PrivateHeldGuests.{held_guest, unheld};
 
 use domain_bindings::{Domain, read_domains};
 use fdt_tree::Tree;

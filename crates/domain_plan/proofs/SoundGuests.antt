@@ -39,8 +39,8 @@ use Rattle.item_checks.specs.Entries.{Entry, joined, of_host, of_guest, items_of
 use Rattle.item_checks.specs.Taken.{static_pages}
 use Rattle.frame_ranges.specs.Ranges.{touched}
 use Rattle.domain_plan.proofs.MapLemmas.{touched_whole}
-use Rattle.tree_plan.specs.Descriptions.{Description, host_of, domain_of, guest_of, guests_of, guests_from, partial_state, partial_at}
-use Rattle.tree_plan.proofs.Sound.{static_pages_whole, full, bare}
+use Rattle.domain_plan.specs.Descriptions.{Description, host_of, domain_of, guest_of, guests_of, guests_from, partial_state, partial_at}
+use Rattle.domain_plan.proofs.Sound.{static_pages_whole, full, bare}
 
 -- ---- no item has a reason of its own
 

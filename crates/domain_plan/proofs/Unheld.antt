@@ -15,7 +15,7 @@ use Rattle.domain_plan.specs.Plans.{placed_of, and_heaps, draws_after, draws, ou
 use Rattle.item_checks.specs.Refusals.{Refusal, why, or_later, first_refused}
 use Rattle.domain_plan.specs.Regions.{Runs, requests, runs_drawn, placed}
 use Rattle.domain_plan.specs.declared.runs.Run.{Run}
-use Rattle.tree_plan.specs.PrivateHeldGuests.{unheld, unheld_host}
+use Rattle.domain_plan.specs.PrivateHeldGuests.{unheld, unheld_host}
 
 entries_unheld : (number : ℕ) (guests : List Guest) → guest_entries number (map unheld guests) ≡ guest_entries number guests
 entries_unheld number [] = refl

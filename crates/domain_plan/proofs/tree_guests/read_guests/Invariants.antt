@@ -1,7 +1,7 @@
 use Rattle.std.proofs.Common.{◌≡◌, map}
-use Rattle.tree_plan.specs.Descriptions.{trees_in}
-use Rattle.tree_plan.specs.PrivateHeldGuests.{held_guest}
-use Rattle.tree_plan.proofs.guests.read_guests.Given as goal
+use Rattle.domain_plan.specs.Descriptions.{trees_in}
+use Rattle.domain_plan.specs.PrivateHeldGuests.{held_guest}
+use Rattle.domain_plan.proofs.tree_guests.read_guests.Given as goal
 
 -- the guests of the domains so far
 abbrev pub invariant-loop-domain : goal.invariant-loop-domain

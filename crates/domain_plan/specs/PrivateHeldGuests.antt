@@ -10,7 +10,7 @@ use Rattle.static_links.specs.Ports.{port_items}
 use Rattle.static_links.specs.Shared.{shared_items}
 use Rattle.item_checks.specs.declared.guests.Guest.{Guest}
 use Rattle.item_checks.specs.declared.guests.PartialState.TheVariants as states
-use Rattle.tree_plan.specs.Descriptions.{partial_state, partial_at}
+use Rattle.domain_plan.specs.Descriptions.{partial_state, partial_at}
 
 -- the guest of a domain whose node is held
 abbrev pub held_guest : Document → List (Option Tree) → Domain → Guest

@@ -15,8 +15,8 @@ use Rattle.static_links.specs.Shared.{shared_items}
 use Rattle.item_checks.specs.declared.guests.Guest.{Guest}
 use Rattle.described.specs.declared.loaded.Loaded.{Loaded}
 use Rattle.item_checks.specs.declared.guests.PartialState.TheVariants as states
-use Rattle.tree_plan.specs.Descriptions.{description_of, domain_of, guest_of, guests_from, guests_of, partial_at, partial_state, trees_in}
-use Rattle.tree_plan.specs.PrivateHeldGuests.{held_guest, unheld}
+use Rattle.domain_plan.specs.Descriptions.{description_of, domain_of, guest_of, guests_from, guests_of, partial_at, partial_state, trees_in}
+use Rattle.domain_plan.specs.PrivateHeldGuests.{held_guest, unheld}
 
 module _ (document : Document) (partials : List (Option Tree)) where
   held_one : (number held : ℕ) → unheld (held_guest document partials (domain_at document number held)) ≡ guest_of document.tree number (node_of document held) (partial_at partials number)

@@ -14,7 +14,7 @@ use Rattle.domain_plan.specs.Plans.{Draws, placed_of, outcome, memories_of, spis
 use Rattle.item_checks.specs.Reasons.{layout_at}
 use Rattle.item_checks.specs.Refusals.{Refusal}
 use Rattle.item_checks.specs.Taken.{Passed}
-use Rattle.tree_plan.specs.Descriptions.{Description, host_of, guests_of}
+use Rattle.domain_plan.specs.Descriptions.{Description, host_of, guests_of}
 
 -- what a guest is given, by the host, by all items with what they take, and by the frames that it drew: its ranges by page, those that run on joined
 abbrev pub guest_plan : Host → List Passed → ℕ → Guest → List FrameRange → GuestPlan

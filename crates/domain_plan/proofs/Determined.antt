@@ -33,14 +33,14 @@ use Rattle.domain_plan.proofs.MapResult.{map_result}
 use Rattle.domain_plan.proofs.OwnItems.{same_ranges}
 use Rattle.domain_plan.proofs.PlacedGuests.{placed_items}
 use Rattle.domain_plan.proofs.PlacedLaws.{ready_placed, own_placed}
-use Rattle.tree_plan.specs.Descriptions.{Description, host_of, guests_of, frames_as_ranges}
-use Rattle.tree_plan.specs.TreePlans.{guest_plan, guest_plans, runs_in, items_in, plan_from, plan_of}
-use Rattle.tree_plan.specs.PrivateHeldGuests.{unheld, unheld_host}
-use Rattle.tree_plan.proofs.FrameRanges.{frames_as_ranges-frames_in}
-use Rattle.tree_plan.proofs.MapRanges.{one_list}
-use Rattle.tree_plan.proofs.Unheld.{placed_unheld, outcome_unheld, plans_unheld, read_held}
-use Rattle.tree_plan.proofs.Sound.{all_items_sound}
-use Rattle.tree_plan.proofs.SoundGuests.{all_guests_sound}
+use Rattle.domain_plan.specs.Descriptions.{Description, host_of, guests_of, frames_as_ranges}
+use Rattle.domain_plan.specs.TreePlans.{guest_plan, guest_plans, runs_in, items_in, plan_from, plan_of}
+use Rattle.domain_plan.specs.PrivateHeldGuests.{unheld, unheld_host}
+use Rattle.domain_plan.proofs.FrameRanges.{frames_as_ranges-frames_in}
+use Rattle.domain_plan.proofs.MapRanges.{one_list}
+use Rattle.domain_plan.proofs.Unheld.{placed_unheld, outcome_unheld, plans_unheld, read_held}
+use Rattle.domain_plan.proofs.Sound.{all_items_sound}
+use Rattle.domain_plan.proofs.SoundGuests.{all_guests_sound}
 
 -- ---- what a plan asks
 

@@ -33,7 +33,7 @@ use Rattle.described.specs.declared.loaded.Loaded.{Loaded}
 use Rattle.item_checks.specs.declared.guests.PartialState.TheVariants as states
 use Rattle.domain_plan.specs.Arguments.{AreSound}
 use Rattle.item_checks.specs.Entries.{Entry, joined, of_host, of_guest, items_of, is_read, load_item, guest_entries, partial_items}
-use Rattle.tree_plan.specs.Descriptions.{Description, host_of, domain_of, guest_of, guests_of, guests_from, partial_state, partial_at}
+use Rattle.domain_plan.specs.Descriptions.{Description, host_of, domain_of, guest_of, guests_of, guests_from, partial_state, partial_at}
 
 -- what is said of an item, where what follows is weakened
 weaker : (own : Option Why) (what : What) (A B : Type 0) → (A → B) → SoundUnless own what A → SoundUnless own what B

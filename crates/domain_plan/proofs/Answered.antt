@@ -11,10 +11,10 @@ use Rattle.item_checks.specs.declared.faults.PlanFault.{PlanFault}
 use Rattle.item_checks.specs.declared.faults.PlanFault.TheVariants as faults
 use Rattle.domain_plan.specs.Plans.{Draws, placed_of, outcome, AreGuestPlans}
 use Rattle.domain_plan.specs.Apart.{ArePlannedApart}
-use Rattle.tree_plan.specs.Descriptions.{Description}
-use Rattle.tree_plan.specs.TreePlans.{IsFaultOf, is_common, plan_of}
-use Rattle.tree_plan.proofs.Apart.{tree_apart}
-use Rattle.tree_plan.proofs.Determined.{AreOf, plans_sorted, tree_planned, tree_refused}
+use Rattle.domain_plan.specs.Descriptions.{Description}
+use Rattle.domain_plan.specs.TreePlans.{IsFaultOf, is_common, plan_of}
+use Rattle.domain_plan.proofs.Apart.{tree_apart}
+use Rattle.domain_plan.proofs.Determined.{AreOf, plans_sorted, tree_planned, tree_refused}
 
 module _ (description : Description) (host : Host) (guests : List Guest) (are : AreOf description host guests) where
   -- the plan says what guests drew, and what they are given

@@ -2,13 +2,14 @@
 ghost use Rattle.std.specs.Prelude.{◌≡◌, All, IfErr, IfOk, Ok};
 ghost use Rattle.described.specs.Maps.{AreMapRanges, AreMerged};
 ghost use Rattle.domain_plan.specs.Apart.{ArePlannedApart};
-ghost use Rattle.tree_plan.specs.Descriptions.{description_of};
-ghost use Rattle.tree_plan.specs.TreePlans.{IsFaultOf, is_common, plan_of};
+ghost use Rattle.domain_plan.specs.Descriptions.{description_of};
+ghost use Rattle.domain_plan.specs.TreePlans.{IsFaultOf, is_common, plan_of};
 
-use crate::guests::read_guests;
+use crate::planned::Plan;
+use crate::planning::plan;
+use crate::tree_guests::read_guests;
 use described::Loaded;
 use domain_bindings::read_host;
-use domain_plan::{Plan, plan};
 use fdt_tree::{Reserve, Tree};
 use item_checks::PlanFault;
 use std::alloc::Global;

@@ -2,10 +2,10 @@ use Rattle.std.proofs.Common.{◌≡◌, ◌∙◌, ap, sym, subst, ◌<◌, Lis
 use Rattle.std.proofs.lemmas.Iterator.Consumers.{YieldsList-turn, YieldsList-end}
 use Rattle.std.proofs.lemmas.Iterator.Adapters.{YieldsList-from_vec}
 use Rattle.domain_bindings.specs.declared.domain.Domain.{Domain}
-use Rattle.tree_plan.specs.Descriptions.{trees_in}
-use Rattle.tree_plan.specs.PrivateHeldGuests.{held_guest, unheld}
-use Rattle.tree_plan.proofs.HeldLemmas.{each_live, held_guests}
-use Rattle.tree_plan.proofs.guests.read_guests.Goals as goal
+use Rattle.domain_plan.specs.Descriptions.{trees_in}
+use Rattle.domain_plan.specs.PrivateHeldGuests.{held_guest, unheld}
+use Rattle.domain_plan.proofs.HeldLemmas.{each_live, held_guests}
+use Rattle.domain_plan.proofs.tree_guests.read_guests.Goals as goal
 
 -- the node of the next guest is live
 pub read_guest-requires : goal.read_guest-requires
