@@ -4,7 +4,7 @@ use Rattle.std.specs.Prelude.{◌⊎◌, ℕ, Option, Some, None, Result, Ok, Er
 use Rattle.outside.specs.Outside.{File}
 use Rattle.outside.specs.declared.status.Status.{Status}
 use Rattle.run_steps.specs.Endings.{Outcome, Refuses, Builds}
-use Rattle.run_steps.specs.Steps.{OnResult, OnOption, AfterEach, GiveEach, nothing}
+use Rattle.run_steps.specs.Steps.{OnResult, OnOption, OrFails, AfterEach, GiveEach, nothing}
 
 -- what follows a step: what it calls for, given what the step hands on
 abbrev pub Next : Type 0 → Type 1
@@ -149,6 +149,31 @@ module _ {R A : Type 0} (Is : R → Type 0) (Found : R → A → Type 0) (on : R
     gives = λ x found next outcome p. (found.0, found.1, (law found.0).gives x found.2 next outcome p);
     stays = λ next outcome p. (p.0, p.1, (law p.0).stays next outcome p.2);
     refuses = λ outputs report p. (law p.0).refuses outputs report p.2;
+  }
+
+-- a step that may fail
+module _ {A : Type 0} (Found : A → Type 0) (name : List ℕ) (step : Next A → Outcome → Type 0) (law : IsStep Found step) where
+  may_fail_splits : (next : Next A) (outcome : Outcome) → OrFails name (step next outcome) outcome → ((x : A) × Found x × next x outcome) ⊎ OrFails name (step nothing outcome) outcome
+  may_fail_splits next outcome (inl fails) = inr (inl fails)
+  may_fail_splits next outcome (inr p) = elim (law.splits next outcome p) [
+    | inl given ↦ inl given
+    | inr refused ↦ inr (inr refused)
+  ]
+
+  may_fail_stays : (next : Next A) (outcome : Outcome) → OrFails name (step nothing outcome) outcome → OrFails name (step next outcome) outcome
+  may_fail_stays next outcome (inl fails) = inl fails
+  may_fail_stays next outcome (inr p) = inr (law.stays next outcome p)
+
+  may_fail_refuses : (outputs : List File) (report : List ℕ) → OrFails name (step nothing (Builds outputs report)) (Builds outputs report) → ⊥
+  may_fail_refuses outputs report (inl fails) = cc
+  may_fail_refuses outputs report (inr p) = law.refuses outputs report p
+
+  pub may_fail_step : IsStep Found (λ next outcome. OrFails name (step next outcome) outcome)
+  may_fail_step = record {
+    splits = may_fail_splits;
+    gives = λ x found next outcome p. inr (law.gives x found next outcome p);
+    stays = may_fail_stays;
+    refuses = may_fail_refuses;
   }
 
 -- a step for each element of a list
