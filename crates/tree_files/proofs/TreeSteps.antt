@@ -54,7 +54,7 @@ module _ (status : Status) (other : IsOfNoFile status) where
 
   pub tree_avoids : (told : Option (List File)) (name : List ℕ) → Avoids status (AfterTreeFile told name)
   tree_avoids told name =
-      both_avoid (λ bytes. IsReading told name tree_limit (Ok bytes)) status (AfterReading told name tree_limit) (AfterTree name) (reading_step told name tree_limit) (reading_avoids told name tree_limit) (flattened_avoids name)
+      both_avoid (λ bytes. IsReading told name tree_limit (Ok bytes)) status (AfterReading told name tree_limit) (AfterTree name) (reading_step told name tree_limit) (reading_avoids status other told name tree_limit) (flattened_avoids name)
 
 -- ---- it calls for one outcome
 
