@@ -18,8 +18,8 @@ IsFault name refused called before after Usage = refused (usage_line name)
 IsFault name refused called before after (Words text) = refused text
 IsFault name refused called before after (Stops stop) = IsDue called before after stop
 
--- what is answered to words that ask for nothing: that they are refused, or want of memory
-abbrev pub IsRefusal : Fault → Type 0
-IsRefusal Usage = ⊤
-IsRefusal (Words text) = ⊤
-IsRefusal (Stops stop) = stop ≡ Memory
+-- what is answered to words that ask for nothing: that they are refused, or want of memory where reading words may take memory
+abbrev pub IsRefusal : Type 0 → Fault → Type 0
+IsRefusal takes_memory Usage = ⊤
+IsRefusal takes_memory (Words text) = ⊤
+IsRefusal takes_memory (Stops stop) = takes_memory × (stop ≡ Memory)

@@ -10,13 +10,14 @@ use Rattle.run_steps.specs.Laws.{AnswersUnless}
 use Rattle.run_steps.specs.Stops.{IsReadFailure}
 
 -- the run of the program of this name ended so, over files, outputs, standard output and the stream of messages, of which each tells what
--- the functions say; `refuses`, `called` and `promised` are the program's relations at its words and at what the files told before
+-- the functions say; `refuses`, `called` and `promised` are the program's relations at its words and at what the files told before, and
+-- `words_take_memory` whether reading words may take memory
 pub record Ran {F O S E : Type 0}
     (held : F → Option (List File)) (counts : F → Counts)
     (written : O → Option (List File)) (outs_room : O → Option (ℕ × ℕ)) (outs_faults : O → ℕ)
     (taken : S → Option (List ℕ)) (out_room : S → Option ℕ) (out_faults : S → ℕ)
     (said : E → Option (List ℕ)) (err_faults : E → ℕ)
-    (name : List ℕ) (refuses : List ℕ → Type 0) (called : Outcome → Type 0) (promised : List File → List ℕ → Type 0)
+    (name : List ℕ) (refuses : List ℕ → Type 0) (words_take_memory : Type 0) (called : Outcome → Type 0) (promised : List File → List ℕ → Type 0)
     (files_old files_new : F) (outs_old outs_new : O) (out_old out_new : S) (err_old err_new : E) (status : Status) : Type 0 where
   -- Built: what the words and the files call for was taken, with all that the program promises of it, and nothing was said.
   pub built : status ≡ statuses.Built → (outputs : List File) × (report : List ℕ)
@@ -27,9 +28,9 @@ pub record Ran {F O S E : Type 0}
       × (err_new ≡ err_old)
   -- Want of memory is answered freely, and said.
   pub memory : status ≡ statuses.Memory → Said said err_faults err_old err_new (line name memory_message)
-  -- Words are refused with their text; words that are refused have this answer, or want of memory.
+  -- Words are refused with their text; words that are refused have this answer, or want of memory where reading them may take some.
   pub words : status ≡ statuses.Words → (text : List ℕ) × Said said err_faults err_old err_new text × refuses text
-  pub unasked : (text : List ℕ) → refuses text → (status ≡ statuses.Words) ⊎ (status ≡ statuses.Memory)
+  pub unasked : (text : List ℕ) → refuses text → (status ≡ statuses.Words) ⊎ (words_take_memory × (status ≡ statuses.Memory))
   -- What is described is refused, a file's bytes are, or an audit found something: as the files call for, with a line on the stream of
   -- messages and nothing on standard output, or with a list that was taken whole, and nothing said.
   pub found : (status ≡ statuses.Refused) ⊎ ((status ≡ statuses.Format) ⊎ (status ≡ statuses.Differs)) →

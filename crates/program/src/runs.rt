@@ -1,6 +1,5 @@
 // The top call of every program.
 ghost use Rattle.std.specs.Prelude.{map, string_bytes};
-ghost use Rattle.program.specs.Laws.{IsOneOutcome, AsksNothing};
 ghost use Rattle.program.specs.Runs.{Ran};
 
 use crate::finding::write_found;
@@ -22,12 +21,12 @@ pub fn run<P: Program, F: Files, O: Outs, S: Sink, E: Sink>(
     out: &mut S,
     err: &mut E,
 ) -> Status
-    requires one_outcome { IsOneOutcome P.calls_for }
-    requires asks_nothing { AsksNothing P.refuses P.calls_for }
     ensures ran { Ran F.held F.counts O.written O.room O.faults S.taken S.room S.faults E.taken E.faults
-        P.name (P.refuses (map string_bytes words.now)) (P.calls_for (map string_bytes words.now) (F.held files.old)) (P.promises (map string_bytes words.now) (F.held files.old))
+        P.name (P.refuses (map string_bytes words.now)) P.words_take_memory (P.calls_for (map string_bytes words.now) (F.held files.old)) (P.promises (map string_bytes words.now) (F.held files.old))
         files.old files.new outs.old outs.new out.old out.new err.old err.new result }
 {
+    program.one_outcome();
+    program.asks_nothing();
     let name = program.program_name();
     match program.make(alloc, words, files) {
         Ok(Made::Built(build)) => write_all(name, &build, outs, out, err),

@@ -5,9 +5,10 @@ use Rattle.std.specs.Prelude.{ℕ, Option, Some, None, Result, Ok, Err}
 use Rattle.outside.specs.Outside.{File}
 use Rattle.outside.specs.declared.files.FileError.{FileError}
 use Rattle.outside.specs.declared.files.FileError.TheVariants as read_errors
+use Rattle.outside.specs.declared.status.Status.{Status}
 use Rattle.outside.specs.declared.status.Status.TheVariants as statuses
 use Rattle.run_steps.specs.Messages.{file_message}
-use Rattle.run_steps.specs.Endings.{Outcome, Refuses, Builds}
+use Rattle.run_steps.specs.Endings.{Outcome, Refuses, Builds, Finds}
 use Rattle.run_steps.specs.Steps.{IsRefusal, IsReading, IsReadRefusal, OnResult, OnOption, AfterReading, IsSize, AfterSize, AfterSizes, AreSizes, nothing}
 use Rattle.run_steps.proofs.Step.{IsStep, Avoids, said_as, on_result_step, on_option_step, asked_step, may_fail_step, each_step, each_avoids, each_refuses, give_more}
 
@@ -18,13 +19,19 @@ read_never name limit read_errors.Longer outputs report p = p
 read_never name limit read_errors.Failed outputs report p = p
 read_never name limit read_errors.Memory outputs report p = p
 
+read_finds_none : (name : List ℕ) (limit : ℕ) (error : FileError) (status : Status) (list : List ℕ) → IsReadRefusal name limit error (Finds status list) → ⊥
+read_finds_none name limit read_errors.Absent status list p = p
+read_finds_none name limit read_errors.Longer status list p = p
+read_finds_none name limit read_errors.Failed status list p = p
+read_finds_none name limit read_errors.Memory status list p = p
+
 same_bytes : (told : Option (List File)) (name : List ℕ) (limit : ℕ) (bytes : List ℕ) (result : Result (List ℕ) FileError) → IsReading told name limit result → result ≡ Ok bytes → IsReading told name limit (Ok bytes)
 same_bytes told name limit bytes result read is = subst (IsReading told name limit) is read
 
 pub reading_step : (told : Option (List File)) (name : List ℕ) (limit : ℕ) → IsStep (λ bytes. IsReading told name limit (Ok bytes)) (AfterReading told name limit)
 reading_step told name limit =
     said_as (λ bytes. (result : Result (List ℕ) FileError) × IsReading told name limit result × (result ≡ Ok bytes)) _ (AfterReading told name limit)
-    (may_fail_step _ name _ (asked_step (IsReading told name limit) (λ result bytes. result ≡ Ok bytes) (λ result next. OnResult (IsReadRefusal name limit) next result) (on_result_step (IsReadRefusal name limit) (read_never name limit))))
+    (may_fail_step _ name _ (asked_step (IsReading told name limit) (λ result bytes. result ≡ Ok bytes) (λ result next. OnResult (IsReadRefusal name limit) next result) (on_result_step (IsReadRefusal name limit) (read_never name limit) (read_finds_none name limit))))
     (λ bytes given. same_bytes told name limit bytes given.0 given.1 given.2)
     (λ bytes read. (Ok bytes, read, refl))
 
@@ -33,7 +40,7 @@ pub size_step : (told : Option (List File)) (name : List ℕ) → IsStep (λ siz
 size_step told name =
     said_as (λ size. (found : Option ℕ) × IsSize told name found × (found ≡ Some size)) _ (AfterSize told name)
     (may_fail_step _ name _ (asked_step (IsSize told name) (λ found size. found ≡ Some size) (λ found next. OnOption (IsRefusal statuses.Read (file_message name (codes "not found"))) next found)
-    (on_option_step (IsRefusal statuses.Read (file_message name (codes "not found"))) (λ outputs report p. p))))
+    (on_option_step (IsRefusal statuses.Read (file_message name (codes "not found"))) (λ outputs report p. p) (λ status list p. p))))
     (λ size given. subst (IsSize told name) given.2 given.1)
     (λ size is. (Some size, is, refl))
 

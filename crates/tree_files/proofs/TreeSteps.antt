@@ -10,7 +10,7 @@ use Rattle.fdt_read.specs.FaultTexts.{fault_text}
 use Rattle.fdt_read.specs.declared.fault.FdtFault.{FdtFault}
 use Rattle.fdt_read.proofs.Decided.{decided}
 use Rattle.run_steps.specs.Messages.{file_message}
-use Rattle.run_steps.specs.Endings.{Outcome, Refuses, Builds}
+use Rattle.run_steps.specs.Endings.{Outcome, Refuses, Builds, Finds}
 use Rattle.run_steps.specs.Steps.{IsRefusal, IsReading, AfterReading, nothing}
 use Rattle.run_steps.proofs.Step.{Next, IsStep, Avoids, and_then, said_as, both_avoid}
 use Rattle.run_steps.proofs.ReadingSteps.{reading_step}
@@ -30,12 +30,17 @@ tree_refuses : (name bytes : List ℕ) (outputs : List File) (report : List ℕ)
 tree_refuses name bytes outputs report (inl refused) = refused.2
 tree_refuses name bytes outputs report (inr spelled) = spelled.2
 
+tree_finds : (name bytes : List ℕ) (status : Status) (list : List ℕ) → AfterTree name bytes nothing (Finds status list) → ⊥
+tree_finds name bytes status list (inl refused) = refused.2
+tree_finds name bytes status list (inr spelled) = spelled.2
+
 pub tree_step : (name bytes : List ℕ) → IsStep (IsFlattened bytes) (AfterTree name bytes)
 tree_step name bytes = record {
   splits = tree_splits name bytes;
   gives = λ tree is next outcome p. inr (tree, is, p);
   stays = tree_stays name bytes;
   refuses = tree_refuses name bytes;
+  finds = tree_finds name bytes;
 }
 
 pub tree_file_step : (told : Option (List File)) (name : List ℕ) → IsStep (IsTreeFile told name) (AfterTreeFile told name)

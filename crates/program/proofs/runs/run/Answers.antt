@@ -15,7 +15,7 @@ pub returns-in-Ok-Built : goal.returns-in-Ok-Built
 returns-in-Ok-Built g c =
     let words = map string_bytes c.args.words.now in
     let called = g.P.Program.calls_for words in
-    let one = c.requires.one_outcome words in
+    let one = c.one_outcome.ensures words in
     let told = g.F.Files.held c.args.files.now in
     let failed = Rose (g.F.Files.counts c.args.files.now).failed (g.F.Files.counts c.make.new.files).failed in
     let build = c.in-Ok-Built.build in
@@ -27,7 +27,7 @@ returns-in-Ok-Built g c =
         built = λ is. let done = ended.built is in (files_of build, report_of build, calls, promised, done.0, done.1, done.2);
         memory = search rules;
         words = search rules;
-        unasked = λ text refused. absurd (c.requires.asks_nothing words text told _ refused calls);
+        unasked = λ text refused. absurd (c.asks_nothing.ensures words text told _ refused calls);
         found = search rules;
         longer = search rules;
         read = search rules;
@@ -47,7 +47,7 @@ pub returns-in-Ok-Found : goal.returns-in-Ok-Found
 returns-in-Ok-Found g c =
     let words = map string_bytes c.args.words.now in
     let called = g.P.Program.calls_for words in
-    let one = c.requires.one_outcome words in
+    let one = c.one_outcome.ensures words in
     let told = g.F.Files.held c.args.files.now in
     let failed = Rose (g.F.Files.counts c.args.files.now).failed (g.F.Files.counts c.make.new.files).failed in
     let verdict = c.in-Ok-Found.verdict in
@@ -61,7 +61,7 @@ returns-in-Ok-Found g c =
         built = λ is. absurd (not.built is);
         memory = λ is. absurd (not.memory is);
         words = λ is. absurd (not.words is);
-        unasked = λ text refused. absurd (c.requires.asks_nothing words text told _ refused calls);
+        unasked = λ text refused. absurd (c.asks_nothing.ensures words text told _ refused calls);
         found = λ is. let same = is_verdict verdict status ended.only is in
             inr (list, subst (λ (s : Status). called told (Finds s list)) (sym same) calls, rw c.as_slice.ensures at (ended.found same).0, (ended.found same).1);
         longer = λ is. absurd (not.longer is);
@@ -83,7 +83,7 @@ returns-in-Err-Usage g c =
     let told = g.F.Files.held c.args.files.now in
     let refused = rw c.in-Err-Usage.field-0-is at c.in-Err-Usage.ensures.stopped in
     let failed = Rose (g.F.Files.counts c.args.files.now).failed (g.F.Files.counts c.make.new.files).failed in
-    let exact = exact_unasked (g.P.Program.calls_for words) (c.requires.one_outcome words) told failed (λ outcome job. c.requires.asks_nothing words (usage_line g.P.Program.name) told outcome refused job) statuses.Words in
+    let exact = exact_unasked (g.P.Program.calls_for words) (c.one_outcome.ensures words) told failed (λ outcome job. c.asks_nothing.ensures words (usage_line g.P.Program.name) told outcome refused job) statuses.Words in
     search rules
 
 pub returns-in-Err-Stops-Memory : goal.returns-in-Err-Stops-Memory
@@ -99,6 +99,6 @@ returns-in-Err-Stops-Because g c =
     let before = g.F.Files.counts c.args.files.now in
     let after = g.F.Files.counts c.make.new.files in
     let stop = c.in-Err-Stops-Because in
-    let exact = exact_stop called (c.requires.one_outcome words) told before after stop.status stop.message
+    let exact = exact_stop called (c.one_outcome.ensures words) told before after stop.status stop.message
     (fault_cause g.P.Program.name (g.P.Program.refuses words) (called told) before after stop.field-0 stop.field-0-0 stop.status stop.message stop.ensures.stopped stop.field-0-is stop.field-0-0-is) in
     search rules
