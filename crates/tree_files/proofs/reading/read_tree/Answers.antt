@@ -1,8 +1,8 @@
 use Rattle.run_steps.specs.Steps.{nothing}
-use Rattle.run_steps.specs.Trees.{tree_limit, AfterTree}
+use Rattle.tree_files.specs.Trees.{tree_limit, AfterTree}
 use Rattle.run_steps.proofs.Due.{stopped_anyway}
 use Rattle.run_steps.proofs.ReadingSteps.{reading_step}
-use Rattle.run_steps.proofs.trees.read_tree.Goals as goal
+use Rattle.tree_files.proofs.reading.read_tree.Goals as goal
 
 pub returns-clause-stopped : goal.returns-clause-stopped
 returns-clause-stopped g c =

@@ -1,18 +1,15 @@
 // Reading a flattened tree (Devicetree Specification 0.4, chapter 5).
 ghost use Rattle.std.specs.Prelude.{◌≡◌, IfOk, IfErr};
-ghost use Rattle.fdt_read.specs.FaultTexts.{fault_text};
-ghost use Rattle.run_steps.specs.Messages.{file_message};
+ghost use Rattle.outside.specs.Reads.{Reads};
 ghost use Rattle.run_steps.specs.Steps.{nothing};
-ghost use Rattle.run_steps.specs.Trees.{flat_tree, IsFlattened, AfterTree, AfterTreeFile, IsTreeFile};
-ghost use Rattle.run_steps.specs.Stops.{IsDue, IsOwnDue, Grew};
+ghost use Rattle.tree_files.specs.Trees.{flat_tree, IsFlattened, AfterTree, AfterTreeFile, IsTreeFile};
+ghost use Rattle.run_steps.specs.Stops.{StopsFor, IsOwnDue};
 
-use crate::messages::make_file_message;
-use crate::reading::read_file;
-use crate::stop::Stop;
+use crate::messages::make_fault_message;
 use fdt_read::{FdtFault, Flat, read};
 use outside::{Files, Status};
-use std::alloc::{AllocError, Global};
-use texts::Bytes;
+use run_steps::{Stop, read_file};
+use std::alloc::Global;
 
 // The longest tree that is read, in bytes.
 const TREE_LIMIT: u64 = 1_048_576;
@@ -30,9 +27,8 @@ pub struct TreeFile {
 /// that spell no tree, whose first fault is named.
 pub fn read_tree<F: Files>(alloc: Global, name: &str, files: &mut F) -> Result<TreeFile, Stop>
     ensures read { IfOk result (λ tree. IsTreeFile (F.held files.old) name.now (flat_tree tree)) }
-    ensures stopped { IfErr result (λ stop. IsDue (AfterTreeFile (F.held files.old) name.now nothing) (F.faults files.old, F.absents files.old, F.overlong files.old) (F.faults files.new, F.absents files.new, F.overlong files.new) stop) }
-    ensures grew { Grew (F.faults files.old, F.absents files.old, F.overlong files.old) (F.faults files.new, F.absents files.new, F.overlong files.new) }
-    ensures kept { F.held files.new ≡ F.held files.old }
+    ensures stopped { IfErr result (StopsFor F.counts files.old files.new (AfterTreeFile (F.held files.old) name.now nothing)) }
+    ensures only_read { Reads F.held F.counts files.old files.new }
 {
     let bytes = read_file(alloc, name, TREE_LIMIT, files)?;
     read_flattened(alloc, name, &bytes)
@@ -51,13 +47,4 @@ fn read_flattened(alloc: Global, name: &str, bytes: &[u8]) -> Result<TreeFile, S
         Err(FdtFault::Memory) => Err(Stop::Memory),
         Err(fault) => Err(Stop::Because(Status::Format, make_fault_message(alloc, name, &fault)?)),
     }
-}
-
-/// What is said about a file that is no flattened tree.
-fn make_fault_message(alloc: Global, name: &str, fault: &FdtFault) -> Result<Bytes, AllocError>
-    ensures { IfOk result (λ message. message ≡ file_message name.now (fault_text fault.now)) }
-{
-    let mut text = Bytes::new(alloc);
-    fault.append_text(alloc, &mut text)?;
-    make_file_message(alloc, name, text.as_slice())
 }

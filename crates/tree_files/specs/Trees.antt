@@ -11,7 +11,7 @@ use Rattle.fdt_read.specs.Spells.{Spells}
 use Rattle.run_steps.specs.Messages.{file_message}
 use Rattle.run_steps.specs.Endings.{Outcome}
 use Rattle.run_steps.specs.Steps.{IsRefusal, IsReading, AfterReading}
-use Rattle.run_steps.specs.declared.trees.TreeFile.{TreeFile}
+use Rattle.tree_files.specs.declared.reading.TreeFile.{TreeFile}
 
 -- the longest tree that is read, in bytes
 abbrev pub tree_limit : ℕ
