@@ -4,42 +4,37 @@ use crate::content::show_content;
 use outside::Status;
 use std::io;
 
-/// Shows the name of a case, the status, what was said, the report, and the outputs with what is to be shown of them.
+/// Shows the status of a run, what was said, the report, and the outputs with what lines ask for of them.
 pub(crate) fn show(
     rt: &(impl Print + AllocGlobal),
-    name: &str,
+    lines: &str,
     status: Status,
     case: &Case,
 ) -> io::Result<()> {
     let code = status.code();
-    println!(rt; "-- {name}: status {code}")?;
-    show_said(rt, case)?;
+    println!(rt; ": status {code}")?;
+    show_lines(rt, case.err.bytes())?;
     show_lines(rt, case.out.bytes())?;
     for number in 0..OUTPUTS {
-        if let Some((output, bytes)) = case.outs.written(number) {
-            show_output(rt, case, output, bytes)?;
+        if let Some((name, bytes)) = case.outs.written(number) {
+            show_output(rt, lines, name, bytes)?;
         }
     }
     Ok(())
 }
 
-/// Shows what a run said.
-pub(crate) fn show_said(rt: &impl Print, case: &Case) -> io::Result<()> {
-    show_lines(rt, case.err.bytes())
-}
-
-/// Shows an output: its name, its length, and what is to be shown of it.
+/// Shows an output: its name, its length, and what lines ask for of it.
 fn show_output(
     rt: &(impl Print + AllocGlobal),
-    case: &Case,
+    lines: &str,
     name: &[u8],
     bytes: &[u8],
 ) -> io::Result<()> {
     show_text(rt, name)?;
     let length = bytes.len();
     println!(rt; ": {length} bytes")?;
-    for line in &case.shown {
-        show_content(rt, line.as_str(), name, bytes)?;
+    for line in lines.lines() {
+        show_content(rt, line, name, bytes)?;
     }
     Ok(())
 }

@@ -3,35 +3,24 @@ ghost use Rattle.std.specs.Prelude.{◌≡◌, ◌∷◌, IfOk, map, codes, stri
 ghost use Rattle.run_steps.specs.Endings.{Refuses, Builds};
 ghost use Rattle.dom0less.specs.Job.{CallsFor};
 
-use outside::{Files, MemFiles, MemOuts, MemSink, Status};
+use outside::{Files, MemOuts, MemSink, Status};
 use std::alloc::{AllocError, Global};
-use std::{fs, io};
 
 // Room for what a job writes: a script, the host's tree, and two files of each guest, in bytes.
 const ROOM: usize = 200_000;
 
 // How many files a job writes at most.
-pub(crate) const OUTPUTS: usize = 8;
+const OUTPUTS: usize = 8;
 
 /// What a run answered, wrote and put.
 #[derive(Drop)]
-pub(crate) struct Job {
-    pub(crate) status: Status,
-    pub(crate) outs: MemOuts,
-    pub(crate) out: MemSink,
-}
-
-/// The files of these names in the folder that the program runs in.
-pub(crate) fn read_files(
-    rt: &(impl std::rt::Files + AllocGlobal),
-    names: &[&str],
-) -> io::Result<MemFiles> {
-    let mut files = MemFiles::new(rt.alloc());
-    for name in names {
-        let bytes = fs::read(rt, name)?;
-        files.add(name, &bytes)?;
-    }
-    Ok(files)
+pub struct Job {
+    /// The answer.
+    pub status: Status,
+    /// The outputs.
+    pub outs: MemOuts,
+    /// The report.
+    pub out: MemSink,
 }
 
 /// The words of a command line, the program's name first.
@@ -47,8 +36,8 @@ fn words_of(alloc: Global, more: &[&str]) -> Result<Vec<String>, AllocError>
 }
 
 /// Runs over files with these words behind the program's name. A build has taken what the words and the files call for,
-/// and a refused description is refused by them.
-pub(crate) fn run_job<F: Files>(
+/// and a refused description is refused by them. Its only error is want of memory.
+pub fn run_job<F: Files>(
     alloc: Global,
     files: &mut F,
     more: &[&str],

@@ -9,30 +9,22 @@ mod case;
 mod content;
 mod cuts;
 mod failing;
+mod images;
+mod lines;
 mod reading;
 mod shown;
+mod trees;
+mod ways;
 
-use crate::audits::show_audit;
-use crate::cuts::show_cuts;
-use crate::failing::show_failing;
-use crate::reading::read_case;
-use crate::shown::show;
+use crate::case::Case;
+use crate::ways::show_way;
 use std::{fs, io};
 
 /// Runs the case of this name and shows what came of it.
 fn show_case(rt: &(impl Print + std::rt::Files + AllocGlobal), name: &str) -> io::Result<()> {
-    let mut case = read_case(rt, name)?;
-    if let Some((place, calls)) = case.failing.take() {
-        return show_failing(rt, name, place.as_str(), calls);
-    }
-    if let Some(file) = case.cut.take() {
-        return show_cuts(rt, name, file.as_str(), &mut case);
-    }
-    if let Some(changes) = case.audit.take() {
-        return show_audit(rt, name, &changes, &mut case);
-    }
-    let status = case.run(rt.alloc());
-    show(rt, name, status, &case)
+    let text = fs::read_to_string(rt, name)?;
+    let mut case = Case::new(rt.alloc());
+    show_way(rt, name, text.as_str(), &mut case)
 }
 
 fn main(rt: HostRuntime) -> io::Result<()> {

@@ -1,4 +1,4 @@
-// A run and what it meets outside.
+// What a case runs: a program, the words of its run, and what it meets outside.
 use outside::{MemFiles, MemOuts, MemSink, Status};
 use std::alloc::{AllocError, Global};
 
@@ -14,8 +14,8 @@ const REPORT: usize = 100_000;
 const SAID: usize = 4000;
 
 /// The program that is run.
-#[derive(Clone, Copy, PartialEq, Eq, Debug)]
-pub(crate) enum Program {
+#[derive(Clone, Copy)]
+enum Program {
     /// `dom0less`.
     Build,
     /// `guest_load`.
@@ -26,42 +26,38 @@ pub(crate) enum Program {
     Source,
 }
 
-/// A program, the words of its run, its name first, and what it meets outside. What of its outputs is shown beside
-/// their lengths, the file, if there is one, whose first lines alone are held, one more in each run; or the place of
-/// whose first calls one fails in each run, with how many these are; or how the outputs are changed before they are
-/// audited.
+/// The program of a name; `dom0less` of any other.
+fn program_of(name: &str) -> Program {
+    match name {
+        "guest_load" => Program::Load,
+        "fdt_overlay" => Program::Overlay,
+        "fdt_source" => Program::Source,
+        _ => Program::Build,
+    }
+}
+
+/// A program, the words of its run, its name first, and what it meets outside.
 #[derive(Drop)]
 pub(crate) struct Case {
     program: Program,
-    pub(crate) words: Vec<String>,
+    words: Vec<String>,
     pub(crate) files: MemFiles,
     pub(crate) outs: MemOuts,
     pub(crate) out: MemSink,
     pub(crate) err: MemSink,
-    pub(crate) shown: Vec<String>,
-    pub(crate) cut: Option<String>,
-    pub(crate) failing: Option<(String, u32)>,
-    pub(crate) audit: Option<Vec<String>>,
 }
 
 impl Case {
-    /// The program's name alone, no files, and room for all that a run writes.
-    pub(crate) fn new(alloc: Global) -> Result<Case, AllocError> {
-        let mut case = Case {
+    /// No words, no files, and no room for what a run writes. Takes no memory.
+    pub(crate) fn new(alloc: Global) -> Case {
+        Case {
             program: Program::Build,
             words: Vec::new(alloc),
             files: MemFiles::new(alloc),
             outs: MemOuts::new(alloc),
             out: MemSink::new(alloc),
             err: MemSink::new(alloc),
-            shown: Vec::new(alloc),
-            cut: None,
-            failing: None,
-            audit: None,
-        };
-        case.clear(alloc)?;
-        case.add_word(alloc, "dom0less")?;
-        Ok(case)
+        }
     }
 
     /// Nothing is written, and there is room for all that a run writes.
@@ -74,14 +70,9 @@ impl Case {
         self.err.reserve(SAID)
     }
 
-    /// The program is the one of this name, of no words yet.
+    /// The program is the one of this name, of no further words yet.
     pub(crate) fn choose(&mut self, alloc: Global, name: &str) -> Result<(), AllocError> {
-        self.program = match name {
-            "guest_load" => Program::Load,
-            "fdt_overlay" => Program::Overlay,
-            "fdt_source" => Program::Source,
-            _ => Program::Build,
-        };
+        self.program = program_of(name);
         self.words.clear();
         self.add_word(alloc, name)
     }
@@ -105,39 +96,16 @@ impl Case {
 
     /// Runs the program.
     pub(crate) fn run(&mut self, alloc: Global) -> Status {
+        let words = self.words.as_slice();
+        let files = &mut self.files;
+        let outs = &mut self.outs;
+        let out = &mut self.out;
+        let err = &mut self.err;
         match self.program {
-            Program::Build => dom0less::run(
-                alloc,
-                &self.words,
-                &mut self.files,
-                &mut self.outs,
-                &mut self.out,
-                &mut self.err,
-            ),
-            Program::Load => guest_load::run(
-                alloc,
-                &self.words,
-                &mut self.files,
-                &mut self.outs,
-                &mut self.out,
-                &mut self.err,
-            ),
-            Program::Overlay => fdt_overlay::run(
-                alloc,
-                &self.words,
-                &mut self.files,
-                &mut self.outs,
-                &mut self.out,
-                &mut self.err,
-            ),
-            Program::Source => fdt_source::run(
-                alloc,
-                &self.words,
-                &mut self.files,
-                &mut self.outs,
-                &mut self.out,
-                &mut self.err,
-            ),
+            Program::Build => dom0less::run(alloc, words, files, outs, out, err),
+            Program::Load => guest_load::run(alloc, words, files, outs, out, err),
+            Program::Overlay => fdt_overlay::run(alloc, words, files, outs, out, err),
+            Program::Source => fdt_source::run(alloc, words, files, outs, out, err),
         }
     }
 }

@@ -1,4 +1,6 @@
 // A case that is run once for each of the first calls of a place outside, which fails.
+use crate::case::Case;
+use crate::lines::{count, parted};
 use crate::reading::read_case;
 use crate::shown::show;
 use std::io;
@@ -8,15 +10,17 @@ use std::io;
 pub(crate) fn show_failing(
     rt: &(impl Print + std::rt::Files + AllocGlobal),
     name: &str,
-    place: &str,
-    calls: u32,
+    lines: &str,
+    value: &str,
+    case: &mut Case,
 ) -> io::Result<()> {
-    for call in 0..calls {
-        let mut case = read_case(rt, name)?;
+    let (place, calls) = parted(value);
+    for call in 0..count(calls) {
+        read_case(rt, lines, case)?;
         case.fail_at(place, call as u64)?;
         let status = case.run(rt.alloc());
-        let title = format!(in rt.alloc(); "{name}, {place} {call}")?;
-        show(rt, title.as_str(), status, &case)?;
+        print!(rt; "-- {name}, {place} {call}")?;
+        show(rt, lines, status, case)?;
     }
     Ok(())
 }

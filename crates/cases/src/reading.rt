@@ -1,0 +1,141 @@
+// Reading what a case runs. Each line is a word of these and what belongs to it:
+//
+//     program NAME      the program is `guest_load`, `fdt_overlay` or `fdt_source`; without this line it is `dom0less`
+//     word TEXT         a further word of the run
+//     fail PLACE CALL   the call of this number fails: of `files`, `outs`, `out` or `err`
+//     file NAME         a file is held under this name, whose bytes are those of the lines up to the next file
+//     from PATH         the bytes of this file
+//     line TEXT         a line of text
+//     zeros COUNT       so many bytes that are zero
+//     number VALUE      the eight bytes of this number, the lowest first
+//
+// or one that `ways`, `audits` or `content` reads.
+use crate::case::Case;
+use crate::lines::{count, number, parted};
+use outside::MemFiles;
+use std::alloc::{AllocError, Global};
+use std::{fs, io};
+
+/// The case is what these lines say, with room for all that its run writes.
+pub(crate) fn read_case(
+    rt: &(impl std::rt::Files + AllocGlobal),
+    lines: &str,
+    case: &mut Case,
+) -> io::Result<()> {
+    case.files = MemFiles::new(rt.alloc());
+    read_files(rt, lines, &mut case.files)?;
+    case.clear(rt.alloc())?;
+    case.choose(rt.alloc(), "dom0less")?;
+    for line in lines.lines() {
+        let (word, value) = parted(line);
+        read_line(rt.alloc(), case, word, value)?;
+    }
+    Ok(())
+}
+
+/// Chooses the program, or adds a word or a call that fails.
+fn read_line(alloc: Global, case: &mut Case, word: &str, value: &str) -> Result<(), AllocError> {
+    match word {
+        "program" => case.choose(alloc, value),
+        "word" => case.add_word(alloc, value),
+        "fail" => {
+            let (place, call) = parted(value);
+            case.fail_at(place, count(call) as u64)
+        }
+        _ => Ok(()),
+    }
+}
+
+/// Adds the files of which these lines give the bytes.
+fn read_files(
+    rt: &(impl std::rt::Files + AllocGlobal),
+    lines: &str,
+    files: &mut MemFiles,
+) -> io::Result<()> {
+    let mut name = None;
+    let mut bytes = Vec::new(rt.alloc());
+    for line in lines.lines() {
+        let (word, value) = parted(line);
+        if word == "file" {
+            end_file(files, name, &mut bytes)?;
+            name = Some(value);
+        } else if let Some(piece) = piece_of(word) {
+            add_piece(rt, &mut bytes, piece, value)?;
+        }
+    }
+    Ok(end_file(files, name, &mut bytes)?)
+}
+
+/// The bytes are held under the name, if there is one, and are none then.
+fn end_file(
+    files: &mut MemFiles,
+    name: Option<&str>,
+    bytes: &mut Vec<u8>,
+) -> Result<(), AllocError> {
+    if let Some(name) = name {
+        files.add(name, bytes)?;
+    }
+    bytes.clear();
+    Ok(())
+}
+
+/// What a line gives to the bytes of a file.
+#[derive(Clone, Copy)]
+enum Piece {
+    /// The bytes of a file of the folder.
+    File,
+    /// A line of text.
+    Line,
+    /// Bytes that are zero.
+    Zeros,
+    /// A number.
+    Number,
+}
+
+/// The piece that a word gives.
+fn piece_of(word: &str) -> Option<Piece> {
+    match word {
+        "from" => Some(Piece::File),
+        "line" => Some(Piece::Line),
+        "zeros" => Some(Piece::Zeros),
+        "number" => Some(Piece::Number),
+        _ => None,
+    }
+}
+
+/// Adds a piece to the bytes of a file.
+fn add_piece(
+    rt: &(impl std::rt::Files + AllocGlobal),
+    bytes: &mut Vec<u8>,
+    piece: Piece,
+    value: &str,
+) -> io::Result<()> {
+    match piece {
+        Piece::File => add_file(rt, bytes, value),
+        Piece::Line => Ok(add_line(bytes, value)?),
+        Piece::Zeros => Ok(add_zeros(bytes, count(value))?),
+        Piece::Number => Ok(bytes.extend_from_slice(&number(value).to_le_bytes())?),
+    }
+}
+
+/// Adds the bytes of a file of the folder.
+fn add_file(
+    rt: &(impl std::rt::Files + AllocGlobal),
+    bytes: &mut Vec<u8>,
+    path: &str,
+) -> io::Result<()> {
+    let held = fs::read(rt, path)?;
+    Ok(bytes.extend_from_slice(&held)?)
+}
+
+/// Adds a line of text.
+fn add_line(bytes: &mut Vec<u8>, text: &str) -> Result<(), AllocError> {
+    bytes.extend_from_slice(text.as_bytes())?;
+    bytes.extend_from_slice(b"\n")
+}
+
+/// Adds bytes that are zero.
+fn add_zeros(bytes: &mut Vec<u8>, count: u32) -> Result<(), AllocError> {
+    let length = bytes.len().saturating_add(count as usize);
+    bytes.resize(length, 0)
+}
