@@ -8,9 +8,9 @@
 //     put NAME PAGE INDEX WORD     the word of this index of its page at this place is this
 //     keep NAME COUNT              it has so many bytes: its first ones, and zeros behind them
 //     copy NAME OTHER              it has the bytes of the output of this other name
-use crate::case::{Case, OUTPUTS};
+use crate::case::Case;
 use crate::lines::{number, parted};
-use outside::{Files, MemFiles, MemOuts, Status};
+use outside::Status;
 use std::alloc::{AllocError, Global};
 
 // The longest image that is changed, in bytes.
@@ -28,29 +28,17 @@ pub(crate) fn audit(alloc: Global, lines: &str, case: &mut Case) -> Result<Statu
     if status != Status::Built {
         return Ok(status);
     }
-    hold_outputs(&mut case.files, &case.outs)?;
-    change_images(alloc, lines, &mut case.files)?;
+    case.hold_outputs()?;
+    change_images(alloc, lines, case)?;
     case.add_word(alloc, "--check")?;
     case.clear(alloc)?;
     Ok(case.run(alloc))
 }
 
 /// Changes the images as these lines say.
-fn change_images(alloc: Global, lines: &str, files: &mut MemFiles) -> Result<(), AllocError> {
+fn change_images(alloc: Global, lines: &str, case: &mut Case) -> Result<(), AllocError> {
     for line in lines.lines() {
-        make_change(alloc, files, line)?;
-    }
-    Ok(())
-}
-
-/// Holds the outputs as files.
-fn hold_outputs(files: &mut MemFiles, outs: &MemOuts) -> Result<(), AllocError> {
-    for number in 0..OUTPUTS {
-        if let Some((output, bytes)) = outs.written(number) {
-            if let Ok(name) = str::from_utf8(output) {
-                files.add(name, bytes)?;
-            }
-        }
+        make_change(alloc, case, line)?;
     }
     Ok(())
 }
@@ -80,7 +68,7 @@ fn change_of(word: &str) -> Option<Change> {
 }
 
 /// Changes an image as a line says.
-fn make_change(alloc: Global, files: &mut MemFiles, line: &str) -> Result<(), AllocError> {
+fn make_change(alloc: Global, case: &mut Case, line: &str) -> Result<(), AllocError> {
     let (word, rest) = parted(line);
     let Some(change) = change_of(word) else {
         return Ok(());
@@ -90,11 +78,11 @@ fn make_change(alloc: Global, files: &mut MemFiles, line: &str) -> Result<(), Al
         Change::Copy => values,
         _ => name,
     };
-    let Ok(mut bytes) = files.read(alloc, source, LONGEST) else {
+    let Some(mut bytes) = case.read_file(alloc, source, LONGEST) else {
         return Ok(());
     };
     change_bytes(change, values, &mut bytes)?;
-    files.add(name, &bytes)
+    case.add_file(name, &bytes)
 }
 
 /// Changes the bytes of an image.

@@ -1,6 +1,8 @@
 // What a case runs: a program, the words of its run, and what it meets outside.
-use outside::{MemFiles, MemOuts, MemSink, Status};
+use example::run_job;
+use outside::{Files, MemFiles, MemOuts, MemSink, Status};
 use std::alloc::{AllocError, Global};
+use std::marker::Model;
 
 /// How many outputs a run has at most: a script, the host's tree, and two files of each of sixteen guests.
 pub(crate) const OUTPUTS: usize = 34;
@@ -36,15 +38,22 @@ fn program_of(name: &str) -> Program {
     }
 }
 
-/// A program, the words of its run, its name first, and what it meets outside.
+/// A program, the words of its run, its name first, and what it meets outside. No contract speaks of a case, so one sees
+/// nothing of it.
 #[derive(Drop)]
 pub(crate) struct Case {
     program: Program,
     words: Vec<String>,
-    pub(crate) files: MemFiles,
-    pub(crate) outs: MemOuts,
-    pub(crate) out: MemSink,
-    pub(crate) err: MemSink,
+    files: MemFiles,
+    outs: MemOuts,
+    out: MemSink,
+    err: MemSink,
+}
+
+impl Model for Case {
+    ghost Value = { Unit {0} };
+
+    ghost view = { λ _. tt };
 }
 
 impl Case {
@@ -60,6 +69,14 @@ impl Case {
         }
     }
 
+    /// The program is `dom0less` with no word but its name, there are no files, nothing is written, and there is room for
+    /// all that a run writes.
+    pub(crate) fn reset(&mut self, alloc: Global) -> Result<(), AllocError> {
+        self.files = MemFiles::new(alloc);
+        self.clear(alloc)?;
+        self.choose(alloc, "dom0less")
+    }
+
     /// Nothing is written, and there is room for all that a run writes.
     pub(crate) fn clear(&mut self, alloc: Global) -> Result<(), AllocError> {
         self.outs = MemOuts::new(alloc);
@@ -70,7 +87,7 @@ impl Case {
         self.err.reserve(SAID)
     }
 
-    /// The program is the one of this name, of no further words yet.
+    /// The program is the one of this name, with no other word yet.
     pub(crate) fn choose(&mut self, alloc: Global, name: &str) -> Result<(), AllocError> {
         self.program = program_of(name);
         self.words.clear();
@@ -81,6 +98,28 @@ impl Case {
     pub(crate) fn add_word(&mut self, alloc: Global, word: &str) -> Result<(), AllocError> {
         self.words.push(String::from_str(alloc, word)?)?;
         Ok(())
+    }
+
+    /// Holds a file, in place of an earlier one of its name.
+    pub(crate) fn add_file(&mut self, name: &str, bytes: &[u8]) -> Result<(), AllocError> {
+        self.files.add(name, bytes)
+    }
+
+    /// Holds the outputs as files.
+    pub(crate) fn hold_outputs(&mut self) -> Result<(), AllocError> {
+        for number in 0..OUTPUTS {
+            if let Some((output, bytes)) = self.outs.written(number) {
+                if let Ok(name) = str::from_utf8(output) {
+                    self.files.add(name, bytes)?;
+                }
+            }
+        }
+        Ok(())
+    }
+
+    /// The bytes of a file that is held and has at most `limit` of them.
+    pub(crate) fn read_file(&mut self, alloc: Global, name: &str, limit: u64) -> Option<Vec<u8>> {
+        self.files.read(alloc, name, limit).ok()
     }
 
     /// The call of this number fails: of the files, of the outputs, of standard output or of standard error.
@@ -107,5 +146,34 @@ impl Case {
             Program::Overlay => fdt_overlay::run(alloc, words, files, outs, out, err),
             Program::Source => fdt_source::run(alloc, words, files, outs, out, err),
         }
+    }
+
+    /// Lets the crate `example` run over the files, with two words behind the name of `dom0less`, and takes over what that
+    /// wrote.
+    pub(crate) fn run_example(
+        &mut self,
+        alloc: Global,
+        option: &str,
+        file: &str,
+    ) -> Result<Status, AllocError> {
+        let job = run_job(alloc, &mut self.files, &[option, file])?;
+        self.outs = job.outs;
+        self.out = job.out;
+        Ok(job.status)
+    }
+
+    /// The name and the bytes of an output, by its number from 0.
+    pub(crate) fn written(&self, number: usize) -> Option<(&[u8], &[u8])> {
+        self.outs.written(number)
+    }
+
+    /// The report or the listing.
+    pub(crate) fn report(&self) -> &[u8] {
+        self.out.bytes()
+    }
+
+    /// What was said.
+    pub(crate) fn said(&self) -> &[u8] {
+        self.err.bytes()
     }
 }

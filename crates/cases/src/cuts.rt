@@ -1,7 +1,6 @@
 // A case that is run over the beginnings of a file.
 use crate::case::{Case, OUTPUTS};
 use crate::shown::show_lines;
-use outside::{Files, MemOuts};
 use std::io;
 
 // The longest file that is cut, in bytes.
@@ -24,7 +23,7 @@ pub(crate) fn show_cuts(
     cutting: Cutting,
     case: &mut Case,
 ) -> io::Result<()> {
-    let Ok(bytes) = case.files.read(rt.alloc(), file, LONGEST) else {
+    let Some(bytes) = case.read_file(rt.alloc(), file, LONGEST) else {
         return Ok(());
     };
     match cutting {
@@ -76,20 +75,20 @@ fn show_cut(
     bytes: &[u8],
     case: &mut Case,
 ) -> io::Result<()> {
-    case.files.add(file, bytes)?;
+    case.add_file(file, bytes)?;
     case.clear(rt.alloc())?;
     let code = case.run(rt.alloc()).code();
-    let (files, size) = size_of_outputs(&case.outs);
+    let (files, size) = size_of_outputs(case);
     println!(rt; ": status {code}, {files} files, {size} bytes")?;
-    show_lines(rt, case.err.bytes())
+    show_lines(rt, case.said())
 }
 
 /// How many outputs there are, and how many bytes they have.
-fn size_of_outputs(outs: &MemOuts) -> (u32, usize) {
+fn size_of_outputs(case: &Case) -> (u32, usize) {
     let mut files = 0u32;
     let mut size = 0usize;
     for number in 0..OUTPUTS {
-        if let Some((_name, bytes)) = outs.written(number) {
+        if let Some((_name, bytes)) = case.written(number) {
             files = files.saturating_add(1);
             size = size.saturating_add(bytes.len());
         }

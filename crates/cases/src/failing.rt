@@ -17,10 +17,21 @@ pub(crate) fn show_failing(
     let (place, calls) = parted(value);
     for call in 0..count(calls) {
         read_case(rt, lines, case)?;
-        case.fail_at(place, call as u64)?;
-        let status = case.run(rt.alloc());
         print!(rt; "-- {name}, {place} {call}")?;
-        show(rt, lines, status, case)?;
+        show_failure(rt, lines, place, call, case)?;
     }
     Ok(())
+}
+
+/// Runs the case with this call of this place failing, and shows what the run answers, says and writes.
+fn show_failure(
+    rt: &(impl Print + AllocGlobal),
+    lines: &str,
+    place: &str,
+    call: u32,
+    case: &mut Case,
+) -> io::Result<()> {
+    case.fail_at(place, call as u64)?;
+    let status = case.run(rt.alloc());
+    show(rt, lines, status, case)
 }

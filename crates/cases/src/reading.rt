@@ -3,7 +3,8 @@
 //     program NAME      the program is `guest_load`, `fdt_overlay` or `fdt_source`; without this line it is `dom0less`
 //     word TEXT         a further word of the run
 //     fail PLACE CALL   the call of this number fails: of `files`, `outs`, `out` or `err`
-//     file NAME         a file is held under this name, whose bytes are those of the lines up to the next file
+//     file NAME         a file is held under this name, whose bytes are those of the lines up to the next file; not the
+//                       first line
 //     from PATH         the bytes of this file
 //     line TEXT         a line of text
 //     zeros COUNT       so many bytes that are zero
@@ -12,7 +13,6 @@
 // or one that `ways`, `audits` or `content` reads.
 use crate::case::Case;
 use crate::lines::{count, number, parted};
-use outside::MemFiles;
 use std::alloc::{AllocError, Global};
 use std::{fs, io};
 
@@ -22,13 +22,16 @@ pub(crate) fn read_case(
     lines: &str,
     case: &mut Case,
 ) -> io::Result<()> {
-    case.files = MemFiles::new(rt.alloc());
-    read_files(rt, lines, &mut case.files)?;
-    case.clear(rt.alloc())?;
-    case.choose(rt.alloc(), "dom0less")?;
+    case.reset(rt.alloc())?;
+    read_words(rt.alloc(), lines, case)?;
+    read_files(rt, lines, case)
+}
+
+/// Chooses the program, and adds the words and the calls that fail.
+fn read_words(alloc: Global, lines: &str, case: &mut Case) -> Result<(), AllocError> {
     for line in lines.lines() {
         let (word, value) = parted(line);
-        read_line(rt.alloc(), case, word, value)?;
+        read_line(alloc, case, word, value)?;
     }
     Ok(())
 }
@@ -50,32 +53,36 @@ fn read_line(alloc: Global, case: &mut Case, word: &str, value: &str) -> Result<
 fn read_files(
     rt: &(impl std::rt::Files + AllocGlobal),
     lines: &str,
-    files: &mut MemFiles,
+    case: &mut Case,
 ) -> io::Result<()> {
-    let mut name = None;
-    let mut bytes = Vec::new(rt.alloc());
-    for line in lines.lines() {
-        let (word, value) = parted(line);
-        if word == "file" {
-            end_file(files, name, &mut bytes)?;
-            name = Some(value);
-        } else if let Some(piece) = piece_of(word) {
-            add_piece(rt, &mut bytes, piece, value)?;
-        }
+    for file in lines.split("\nfile ").skip(1) {
+        read_file(rt, file, case)?;
     }
-    Ok(end_file(files, name, &mut bytes)?)
+    Ok(())
 }
 
-/// The bytes are held under the name, if there is one, and are none then.
-fn end_file(
-    files: &mut MemFiles,
-    name: Option<&str>,
+/// Adds a file: its first line is the name, and the others give the bytes.
+fn read_file(
+    rt: &(impl std::rt::Files + AllocGlobal),
+    file: &str,
+    case: &mut Case,
+) -> io::Result<()> {
+    let (name, lines) = file.split_once('\n').unwrap_or((file, ""));
+    let mut bytes = Vec::new(rt.alloc());
+    read_bytes(rt, lines, &mut bytes)?;
+    Ok(case.add_file(name, &bytes)?)
+}
+
+/// Adds the bytes that lines give.
+fn read_bytes(
+    rt: &(impl std::rt::Files + AllocGlobal),
+    lines: &str,
     bytes: &mut Vec<u8>,
-) -> Result<(), AllocError> {
-    if let Some(name) = name {
-        files.add(name, bytes)?;
+) -> io::Result<()> {
+    for line in lines.lines() {
+        let (word, value) = parted(line);
+        add_piece(rt, bytes, piece_of(word), value)?;
     }
-    bytes.clear();
     Ok(())
 }
 
@@ -90,16 +97,18 @@ enum Piece {
     Zeros,
     /// A number.
     Number,
+    /// Nothing.
+    Nothing,
 }
 
 /// The piece that a word gives.
-fn piece_of(word: &str) -> Option<Piece> {
+fn piece_of(word: &str) -> Piece {
     match word {
-        "from" => Some(Piece::File),
-        "line" => Some(Piece::Line),
-        "zeros" => Some(Piece::Zeros),
-        "number" => Some(Piece::Number),
-        _ => None,
+        "from" => Piece::File,
+        "line" => Piece::Line,
+        "zeros" => Piece::Zeros,
+        "number" => Piece::Number,
+        _ => Piece::Nothing,
     }
 }
 
@@ -115,6 +124,7 @@ fn add_piece(
         Piece::Line => Ok(add_line(bytes, value)?),
         Piece::Zeros => Ok(add_zeros(bytes, count(value))?),
         Piece::Number => Ok(bytes.extend_from_slice(&number(value).to_le_bytes())?),
+        Piece::Nothing => Ok(()),
     }
 }
 

@@ -13,10 +13,15 @@ pub(crate) fn show(
 ) -> io::Result<()> {
     let code = status.code();
     println!(rt; ": status {code}")?;
-    show_lines(rt, case.err.bytes())?;
-    show_lines(rt, case.out.bytes())?;
+    show_lines(rt, case.said())?;
+    show_lines(rt, case.report())?;
+    show_outputs(rt, lines, case)
+}
+
+/// Shows the outputs with what lines ask for of them.
+fn show_outputs(rt: &(impl Print + AllocGlobal), lines: &str, case: &Case) -> io::Result<()> {
     for number in 0..OUTPUTS {
-        if let Some((name, bytes)) = case.outs.written(number) {
+        if let Some((name, bytes)) = case.written(number) {
             show_output(rt, lines, name, bytes)?;
         }
     }

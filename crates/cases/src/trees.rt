@@ -21,7 +21,7 @@ fn show_listing(
     case: &mut Case,
 ) -> io::Result<()> {
     list_tree(rt.alloc(), bytes, case)?;
-    match str::from_utf8(case.out.bytes()) {
+    match str::from_utf8(case.report()) {
         Ok(listing) => show_below(rt, listing, path),
         Err(_) => Ok(()),
     }
@@ -29,11 +29,10 @@ fn show_listing(
 
 /// Runs the case as one that lists a tree.
 fn list_tree(alloc: Global, bytes: &[u8], case: &mut Case) -> Result<(), AllocError> {
-    case.clear(alloc)?;
-    case.choose(alloc, "dom0less")?;
+    case.reset(alloc)?;
     case.add_word(alloc, "--show")?;
     case.add_word(alloc, "tree")?;
-    case.files.add("tree", bytes)?;
+    case.add_file("tree", bytes)?;
     let _status = case.run(alloc);
     Ok(())
 }

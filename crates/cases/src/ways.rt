@@ -12,7 +12,6 @@ use crate::failing::show_failing;
 use crate::lines::{count, parted};
 use crate::reading::read_case;
 use crate::shown::show;
-use example::run_job;
 use outside::Status;
 use std::alloc::{AllocError, Global};
 use std::io;
@@ -69,8 +68,8 @@ pub(crate) fn show_way(
             show_cuts(rt, name, file, Cutting::Bytes(count(bytes)), case)
         }
         _ => {
-            let status = answer(rt.alloc(), way, lines, value, case)?;
             print!(rt; "-- {name}")?;
+            let status = answer(rt.alloc(), way, lines, value, case)?;
             show(rt, lines, status, case)
         }
     }
@@ -86,16 +85,10 @@ fn answer(
 ) -> Result<Status, AllocError> {
     match way {
         Way::Audit => audit(alloc, lines, case),
-        Way::Example => run_example(alloc, value, case),
+        Way::Example => {
+            let (option, file) = parted(value);
+            case.run_example(alloc, option, file)
+        }
         _ => Ok(case.run(alloc)),
     }
-}
-
-/// Lets the crate `example` run with two words over the files of the case, and takes over what that wrote.
-fn run_example(alloc: Global, value: &str, case: &mut Case) -> Result<Status, AllocError> {
-    let (option, file) = parted(value);
-    let job = run_job(alloc, &mut case.files, &[option, file])?;
-    case.outs = job.outs;
-    case.out = job.out;
-    Ok(job.status)
 }

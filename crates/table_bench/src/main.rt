@@ -82,5 +82,5 @@ fn main(rt: HostRuntime) -> io::Result<()> {
             }
         }
     }
-    println!(rt; "usage: dom0less_bench chunks|tables|blocks NUMBER")
+    println!(rt; "usage: table_bench chunks|tables|blocks NUMBER")
 }
