@@ -1,6 +1,5 @@
 // What is shown of an image:
 //
-//     image NAME                its root frame, and how many tables it has
 //     frames NAME               its root frame, and the frames of its pages, in order
 //     walk NAME ADDRESS         where a walk through it ends, from this guest address below 2^40
 //     words NAME ADDRESS        the words that this walk meets, and where it ends
@@ -14,7 +13,6 @@ use std::io;
 /// What of an image is shown.
 #[derive(Clone, Copy)]
 pub(crate) enum Look {
-    Image,
     Frames,
     Walk,
     Words,
@@ -24,7 +22,6 @@ pub(crate) enum Look {
 /// What a word shows of an image.
 pub(crate) fn look_of(word: &str) -> Option<Look> {
     match word {
-        "image" => Some(Look::Image),
         "frames" => Some(Look::Frames),
         "walk" => Some(Look::Walk),
         "words" => Some(Look::Words),
@@ -49,7 +46,6 @@ pub(crate) fn show_image(
 /// Shows this of an image.
 fn show_look(rt: &impl Print, image: &Image, look: Look, value: &str) -> io::Result<()> {
     match look {
-        Look::Image => show_head(rt, image),
         Look::Frames => show_frames(rt, image),
         Look::Walk => show_walk(rt, image, number(value) % (1 << 40)),
         Look::Words => show_words(rt, image, number(value) % (1 << 40)),
@@ -58,13 +54,6 @@ fn show_look(rt: &impl Print, image: &Image, look: Look, value: &str) -> io::Res
             show_entry(rt, image, number(frame), number(index))
         }
     }
-}
-
-/// Shows what stands in the header of an image.
-fn show_head(rt: &impl Print, image: &Image) -> io::Result<()> {
-    let root = image.root();
-    let tables = image.page_count();
-    println!(rt; "  root frame {root:#x}, {tables} tables")
 }
 
 /// Shows the frames of an image.

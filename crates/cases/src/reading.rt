@@ -121,10 +121,17 @@ fn add_piece(
 ) -> io::Result<()> {
     match piece {
         Piece::File => add_file(rt, bytes, value),
-        Piece::Line => Ok(add_line(bytes, value)?),
-        Piece::Zeros => Ok(add_zeros(bytes, count(value))?),
-        Piece::Number => Ok(bytes.extend_from_slice(&number(value).to_le_bytes())?),
-        Piece::Nothing => Ok(()),
+        _ => Ok(add_plain(bytes, piece, value)?),
+    }
+}
+
+/// Adds a piece that is no file to the bytes of a file.
+fn add_plain(bytes: &mut Vec<u8>, piece: Piece, value: &str) -> Result<(), AllocError> {
+    match piece {
+        Piece::Line => add_line(bytes, value),
+        Piece::Zeros => add_zeros(bytes, count(value)),
+        Piece::Number => bytes.extend_from_slice(&number(value).to_le_bytes()),
+        _ => Ok(()),
     }
 }
 
