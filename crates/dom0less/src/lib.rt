@@ -13,3 +13,4 @@ mod script;
 mod top;
 
 pub use top::run;
+pub use tree_generator::generate;
