@@ -1,11 +1,10 @@
 """The program's cases as files, and the tree that is generated for a number: descriptions of which guests' trees are built."""
 
-import pathlib
+from lib.boards import quad
+from lib.found import CRATES
+from lib.trees import Node
 
-from board_trees import quad
-from script_trees import Node
-
-CASES = pathlib.Path(__file__).resolve().parent.parent / "crates/dom0less_cases/data"
+CASES = CRATES / "dom0less_cases/data"
 
 
 def cells(*numbers):

@@ -1,19 +1,17 @@
 """Other programs' checks of flattened device trees: dtc, and libfdt's fdt_check_full."""
 
-import pathlib, shutil, subprocess
+import shutil, subprocess
 
-from script_trees import not_so
-
-SOURCE = pathlib.Path(__file__).resolve().parent / "device-trees.c"
+from lib.found import compiled, lacking
+from lib.result import not_so
 
 
 class Checkers:
     """Those that there are; the program around libfdt's checker is made in a folder."""
 
     def __init__(self, folder):
-        self.dtc, self.libfdt, made = shutil.which("dtc"), None, pathlib.Path(folder, "checker")
-        if shutil.which("gcc") and subprocess.run(["gcc", "-O1", "-o", made, SOURCE, "-lfdt"], capture_output=True).returncode == 0:
-            self.libfdt = made
+        self.dtc = shutil.which("dtc")
+        self.libfdt = None if lacking("libfdt") else compiled("libfdt-takes.c", folder, libraries=["-lfdt"])
 
     def names(self):
         """The names of those that there are."""

@@ -1,11 +1,8 @@
 """Device trees: of a file, of a script's lines, and as U-Boot's `fdt print` shows them."""
 
-import re, struct, sys
+import re, struct
 
-
-def not_so(message):
-    """Ends the check, since something is not as it has to be."""
-    sys.exit(f"not so: {message}")
+from lib.result import not_so
 
 
 class Node:

@@ -1,4 +1,4 @@
-/* Lets a file shrink while it is read, for checks/shrinking-files: before its read number SHRINK_AT, counted from 1, the file
+/* Lets a file shrink while it is read, for checks/files-may-shrink: before its read number SHRINK_AT, counted from 1, the file
    SHRINK is cut to SHRINK_TO bytes. It writes to the file SEEN_TO how many reads of it there were, and how many bytes they
    gave. */
 #define _GNU_SOURCE

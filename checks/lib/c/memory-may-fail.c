@@ -1,4 +1,4 @@
-/* Makes one allocation fail, for checks/failing-memory: the one whose number is FAIL_AT, counted from 1. It writes to the
+/* Makes one allocation fail, for checks/memory-may-fail: the one whose number is FAIL_AT, counted from 1. It writes to the
    file COUNT_TO how many there were. */
 #define _GNU_SOURCE
 #include <dlfcn.h>
