@@ -11,7 +11,7 @@ use Rattle.outside.specs.declared.files.FileError.{FileError}
 use Rattle.texts.specs.declared.ranges.FrameRange.{FrameRange}
 use Rattle.described.specs.declared.map_range.MapRange.{MapRange}
 use Rattle.frame_alloc.proofs.FreeFrames.{is_in_cons}
-use Rattle.frame_ranges.proofs.CommonFrames.{or_right}
+use Rattle.frame_alloc.proofs.CommonFrames.{or_right}
 use Rattle.stage2_walk.specs.Pages.{Page, frames_of}
 use Rattle.stage2_walk.specs.Files.{image_of}
 use Rattle.stage2_walk.specs.declared.image_fault.ImageFault.{ImageFault}
