@@ -10,7 +10,7 @@ use Rattle.build_report.proofs.Bounds.{few_pages}
 use Rattle.described.specs.Maps.{AreMapRanges}
 use Rattle.described.specs.declared.why.Why.{Why}
 use Rattle.described.specs.declared.why.Why.TheVariants.{NoTableFrame}
-use Rattle.domain_plan.specs.Refusals.{Refusal, or_later}
+use Rattle.item_checks.specs.Refusals.{Refusal, or_later}
 use Rattle.domain_plan.specs.declared.planned.GuestPlan.{GuestPlan}
 use Rattle.frame_alloc.specs.Frames.{AreFramesFrom, is_within, lowest_pair, without}
 use Rattle.guest_images.specs.Built.{tables_counted}

@@ -4,9 +4,9 @@ use Rattle.std.specs.Prelude.{Option, Result, Ok, Err, nat_lt, if◌then◌else�
 use Rattle.std.specs.Option.{option_or}
 use Rattle.described.specs.declared.item.Item.{Item}
 use Rattle.described.specs.declared.why.Why.{Why}
-use Rattle.domain_plan.specs.Refusals.{Refusal, or_later}
-use Rattle.domain_plan.specs.declared.planned.PlanFault.{PlanFault}
-use Rattle.domain_plan.specs.declared.planned.PlanFault.TheVariants as plan_faults
+use Rattle.item_checks.specs.Refusals.{Refusal, or_later}
+use Rattle.item_checks.specs.declared.faults.PlanFault.{PlanFault}
+use Rattle.item_checks.specs.declared.faults.PlanFault.TheVariants as plan_faults
 use Rattle.fdt_write.specs.Flattened.{length_limit}
 use Rattle.guest_images.specs.Faults as images
 use Rattle.guest_images.specs.Requests.{refused_tables}
@@ -16,8 +16,8 @@ use Rattle.run_steps.specs.Steps.{OnResult, nothing}
 use Rattle.run_steps.specs.Stops.{IsOwnDue}
 use Rattle.run_steps.specs.declared.stop.Stop.{Stop}
 use Rattle.run_steps.specs.declared.stop.Stop.TheVariants as stops
-use Rattle.tree_plan.specs.Descriptions.{Description}
-use Rattle.tree_plan.specs.TreePlans.{TreePlan, plan_of, IsFaultOf}
+use Rattle.domain_plan.specs.Descriptions.{Description}
+use Rattle.domain_plan.specs.TreePlans.{TreePlan, plan_of, IsFaultOf}
 use Rattle.build_outputs.specs.Builds.{last_refused, unless_refused, with_last, built_of, IsItemRefusal, AfterItems}
 use Rattle.build_outputs.specs.Lengths.{tree_item, too_long, tree_too_long, refused_trees}
 use Rattle.build_outputs.specs.Names.{host_name}

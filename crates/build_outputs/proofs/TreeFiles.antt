@@ -4,12 +4,12 @@ use Rattle.std.specs.Prelude.{◌⊎◌, Option, slice_get}
 use Rattle.std.proofs.lemmas.List.{take_more, take_all, take-append-drop, length-take-le}
 use Rattle.outside.specs.Outside.{File}
 use Rattle.described.specs.declared.why.Why.{Why}
-use Rattle.domain_plan.specs.Refusals.{or_later}
+use Rattle.item_checks.specs.Refusals.{or_later}
 use Rattle.domain_plan.specs.declared.planned.GuestPlan.{GuestPlan}
 use Rattle.fdt_tree.specs.Tree.{Tree}
 use Rattle.fdt_write.specs.Flattened.{length_limit}
 use Rattle.run_steps.specs.declared.stop.Stop.{Stop}
-use Rattle.tree_plan.specs.Descriptions.{partial_at}
+use Rattle.domain_plan.specs.Descriptions.{partial_at}
 use Rattle.build_outputs.specs.Lengths.{tree_item, too_long, tree_too_long, refused_trees}
 use Rattle.build_outputs.specs.Outputs.{tree_output, tree_outputs}
 use Rattle.build_outputs.specs.PrivateSpelled.{IsSpelled, AreSpelled}

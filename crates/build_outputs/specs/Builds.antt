@@ -2,13 +2,13 @@
 use Rattle.std.specs.Prelude.{ℕ, Option, Some, None, Result, Ok, Err}
 use Rattle.std.specs.Option.{option_or}
 use Rattle.outside.specs.declared.status.Status.TheVariants as statuses
-use Rattle.domain_plan.specs.Refusals.{Refusal}
+use Rattle.item_checks.specs.Refusals.{Refusal}
 use Rattle.guest_images.specs.Requests.{refused_tables}
 use Rattle.run_steps.specs.Endings.{Outcome}
 use Rattle.run_steps.specs.Messages.{refused_message}
 use Rattle.run_steps.specs.Steps.{IsRefusal, OnResult}
-use Rattle.tree_plan.specs.Descriptions.{Description}
-use Rattle.tree_plan.specs.TreePlans.{TreePlan, plan_of}
+use Rattle.domain_plan.specs.Descriptions.{Description}
+use Rattle.domain_plan.specs.TreePlans.{TreePlan, plan_of}
 use Rattle.build_outputs.specs.Lengths.{refused_trees}
 use Rattle.build_outputs.specs.Outputs.{written_trees}
 

@@ -5,7 +5,7 @@ use Rattle.described.specs.declared.item.Item.{Item}
 use Rattle.described.specs.declared.item.Part.TheVariants as parts
 use Rattle.described.specs.declared.why.Why.{Why}
 use Rattle.described.specs.declared.why.Why.TheVariants.{TreeTooLong}
-use Rattle.domain_plan.specs.Refusals.{Refusal, or_later}
+use Rattle.item_checks.specs.Refusals.{Refusal, or_later}
 use Rattle.fdt_write.specs.Flattened.{length_limit}
 
 -- a tree that is written, as an item: the name of its file

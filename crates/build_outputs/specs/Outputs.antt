@@ -10,9 +10,10 @@ use Rattle.guest_images.specs.Images.{least_files}
 use Rattle.guest_images.specs.Requests.{tables_needed, left_by_all}
 use Rattle.build_report.specs.Report.{report}
 use Rattle.run_steps.specs.Names.{joined}
-use Rattle.tree_plan.specs.Descriptions.{Description, partial_at}
-use Rattle.tree_plan.specs.TreePlans.{TreePlan}
-use Rattle.build_outputs.specs.Names.{host_name, tree_name, image_name}
+use Rattle.domain_plan.specs.Descriptions.{Description, partial_at}
+use Rattle.domain_plan.specs.TreePlans.{TreePlan}
+use Rattle.guest_images.specs.Names.{image_name}
+use Rattle.build_outputs.specs.Names.{host_name, tree_name}
 
 -- the host's tree, with its reservations and the processor that boots
 abbrev pub host_output : ℕ → Description → File

@@ -4,7 +4,7 @@ use Rattle.domain_plan.specs.declared.planned.GuestPlan.{GuestPlan}
 use Rattle.fdt_read.specs.Spells.{Spells}
 use Rattle.fdt_tree.specs.Tree.{Tree}
 use Rattle.guest_fdt.specs.GuestTree.{guest_tree}
-use Rattle.tree_plan.specs.Descriptions.{partial_at}
+use Rattle.domain_plan.specs.Descriptions.{partial_at}
 use Rattle.build_outputs.specs.Outputs.{tree_output}
 
 -- the bytes that are written for a guest's tree spell it

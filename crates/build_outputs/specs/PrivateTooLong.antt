@@ -1,7 +1,7 @@
 -- Only private contracts and proofs use this file: the stop at the first of some trees that is too long.
 use Rattle.std.specs.Prelude.{◌≡◌, ◌<◌, ◌⊎◌, List, length, Some}
 use Rattle.outside.specs.Outside.{File}
-use Rattle.domain_plan.specs.Refusals.{Refusal}
+use Rattle.item_checks.specs.Refusals.{Refusal}
 use Rattle.fdt_write.specs.Flattened.{length_limit}
 use Rattle.run_steps.specs.Stops.{IsOwnDue}
 use Rattle.run_steps.specs.declared.stop.Stop.{Stop}

@@ -10,8 +10,8 @@ use Rattle.guest_fdt.specs.Described.{described}
 use Rattle.guest_fdt.specs.Laws.{pages_of}
 use Rattle.guest_fdt.specs.Listed.{listed}
 use Rattle.guest_images.specs.Walks.{AllWalk, MeetOnlyIn, AreApart}
-use Rattle.tree_plan.specs.Descriptions.{Description, partial_at}
-use Rattle.tree_plan.specs.TreePlans.{TreePlan, is_common}
+use Rattle.domain_plan.specs.Descriptions.{Description, partial_at}
+use Rattle.domain_plan.specs.TreePlans.{TreePlan, is_common}
 use Rattle.build_outputs.specs.Builds.{built_of}
 use Rattle.build_outputs.specs.Outputs.{tree_output, images_of, outputs_of, report_of, in_folder}
 use Rattle.build_outputs.specs.Totals.{totals_of}

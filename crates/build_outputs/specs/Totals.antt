@@ -3,7 +3,7 @@ use Rattle.std.specs.Prelude.{ℕ, List, length, sum_by}
 use Rattle.build_report.specs.Lines.{ram_pages}
 use Rattle.domain_plan.specs.declared.planned.GuestPlan.{GuestPlan}
 use Rattle.guest_images.specs.Requests.{tables_needed}
-use Rattle.tree_plan.specs.TreePlans.{TreePlan}
+use Rattle.domain_plan.specs.TreePlans.{TreePlan}
 use Rattle.build_outputs.specs.Outputs.{frames_left}
 use Rattle.build_outputs.specs.declared.totals.Totals.{Totals}
 

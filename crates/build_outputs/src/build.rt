@@ -5,7 +5,7 @@ ghost use Rattle.std.specs.Option.{option_copied};
 ghost use Rattle.fdt_read.specs.Reservations.{is_last_pair};
 ghost use Rattle.run_steps.specs.Steps.{nothing};
 ghost use Rattle.run_steps.specs.Stops.{IsOwnDue};
-ghost use Rattle.tree_plan.specs.Descriptions.{description_of};
+ghost use Rattle.domain_plan.specs.Descriptions.{description_of};
 ghost use Rattle.build_outputs.specs.Builds.{AfterItems};
 ghost use Rattle.build_outputs.specs.Promises.{IsBuildOf};
 ghost use Rattle.build_outputs.specs.Made.{files_in};
@@ -18,14 +18,13 @@ use crate::totals::{Totals, count_totals};
 use crate::trees::write_trees;
 use crate::written::{name_images, put_in_turn};
 use described::Loaded;
-use domain_plan::Plan;
+use domain_plan::{Plan, plan_tree};
 use fdt_tree::{Reserve, Tree};
 use guest_fdt::laws::{plans_are_bounded, plans_are_few, trees_list_the_guests};
 use guest_images::build_images;
 use run_steps::{Output, Stop};
 use std::alloc::Global;
 use texts::{Bytes, List};
-use tree_plan::plan_tree;
 
 /// What a build writes.
 #[derive(Drop)]

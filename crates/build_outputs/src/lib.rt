@@ -12,6 +12,5 @@ mod trees;
 mod written;
 
 pub use build::{Built, build_described};
-pub use names::make_image_name;
 pub use refusals::plan_stop;
 pub use totals::Totals;

@@ -2,8 +2,10 @@
 ghost use Rattle.std.specs.Prelude.{◌≡◌, IfOk, string_bytes};
 ghost use Rattle.std.specs.Option.{option_copied};
 ghost use Rattle.run_steps.specs.Names.{joined};
-ghost use Rattle.build_outputs.specs.Names.{guest_name, image_name, tree_name};
+ghost use Rattle.guest_images.specs.Names.{image_name};
+ghost use Rattle.build_outputs.specs.Names.{tree_name};
 
+use guest_images::{make_guest_name, make_image_name};
 use run_steps::join;
 use std::alloc::{AllocError, Global};
 use texts::Text;
@@ -12,10 +14,14 @@ use texts::Text;
 pub(crate) const HOST: &str = "host.dtb";
 
 /// The name of the image of the guest with this number, in a folder where one is given.
-pub fn make_image_name(alloc: Global, folder: Option<&str>, number: u64) -> Result<Text, AllocError>
+pub(crate) fn make_image_path(
+    alloc: Global,
+    folder: Option<&str>,
+    number: u64,
+) -> Result<Text, AllocError>
     ensures { IfOk result (λ name. name ≡ joined (option_copied folder.entry) (image_name number)) }
 {
-    let name = make_guest_name(alloc, number, ".s2")?;
+    let name = make_image_name(alloc, number)?;
     join(alloc, folder, name.as_str())
 }
 
@@ -24,11 +30,4 @@ pub(crate) fn make_tree_name(alloc: Global, number: u64) -> Result<String, Alloc
     ensures { IfOk result (λ name. string_bytes name ≡ tree_name number) }
 {
     make_guest_name(alloc, number, ".dtb")
-}
-
-/// The name of a file of the guest with this number: `domU`, the number and the ending.
-fn make_guest_name(alloc: Global, number: u64, ending: &str) -> Result<String, AllocError>
-    ensures { IfOk result (λ name. string_bytes name ≡ guest_name number ending.now) }
-{
-    format!(in alloc; "domU{number}{ending}")
 }

@@ -2,12 +2,12 @@
 ghost use Rattle.std.specs.Prelude.{◌≡◌, ◌⊎◌, Some, None};
 ghost use Rattle.run_steps.specs.Messages.{refused_message};
 ghost use Rattle.run_steps.specs.Stops.{IsOwnDue};
-ghost use Rattle.domain_plan.specs.Refusals.{Refusal};
+ghost use Rattle.item_checks.specs.Refusals.{Refusal};
 ghost use Rattle.build_outputs.specs.Builds.{IsItemRefusal};
 
 use described::{Item, Why};
-use domain_plan::PlanFault;
 use guest_images::ImagesFault;
+use item_checks::PlanFault;
 use outside::Status;
 use run_steps::{Stop, make_refused_message};
 use std::alloc::Global;

@@ -7,7 +7,7 @@ ghost use Rattle.guest_fdt.specs.Bounds.{IsBounded};
 ghost use Rattle.guest_fdt.specs.GuestTree.{guest_tree};
 ghost use Rattle.run_steps.specs.Names.{joined};
 ghost use Rattle.run_steps.specs.Outputs.{file_of};
-ghost use Rattle.tree_plan.specs.Descriptions.{partial_at, trees_in};
+ghost use Rattle.domain_plan.specs.Descriptions.{partial_at, trees_in};
 ghost use Rattle.build_outputs.specs.Lengths.{refused_trees};
 ghost use Rattle.build_outputs.specs.Made.{files_in};
 ghost use Rattle.build_outputs.specs.Outputs.{in_folder, tree_output, tree_outputs};

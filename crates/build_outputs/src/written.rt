@@ -7,7 +7,7 @@ ghost use Rattle.build_outputs.specs.Made.{files_in};
 ghost use Rattle.build_outputs.specs.Names.{host_name};
 ghost use Rattle.build_outputs.specs.Outputs.{image_outputs, in_folder, in_turn};
 
-use crate::names::{HOST, make_image_name};
+use crate::names::{HOST, make_image_path};
 use domain_plan::GuestPlan;
 use guest_images::GuestImage;
 use run_steps::{Output, join};
@@ -26,7 +26,7 @@ pub(crate) fn name_images(
     let mut outputs = List::new(alloc);
     for (guest, image) in guests.iter().zip(images.into_vec()) {
         outputs.push(Output {
-            name: make_image_name(alloc, folder, guest.number)?,
+            name: make_image_path(alloc, folder, guest.number)?,
             bytes: image.file,
         })?;
     }

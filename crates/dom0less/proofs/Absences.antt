@@ -22,8 +22,8 @@ use Rattle.ib_script.specs.declared.make.MakeFault.{MakeFault}
 use Rattle.ib_script.specs.declared.make.MakeFault.TheVariants as make_faults
 use Rattle.script_run.specs.Effect.{tree_load_of, tree_effect}
 use Rattle.script_run.specs.Reading.{commands_of}
-use Rattle.tree_plan.specs.Descriptions.{Description}
-use Rattle.tree_plan.specs.TreePlans.{plan_of}
+use Rattle.domain_plan.specs.Descriptions.{Description}
+use Rattle.domain_plan.specs.TreePlans.{plan_of}
 use Rattle.run_steps.specs.Messages.{file_message}
 use Rattle.run_steps.specs.Names.{joined}
 use Rattle.run_steps.specs.Endings.{Outcome, Refuses, Builds}

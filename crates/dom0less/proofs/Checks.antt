@@ -2,10 +2,10 @@
 use Rattle.std.proofs.Common.{◌≡◌, refl, sym, ap, subst, ℕ, List, [], length}
 use Rattle.std.specs.Prelude.{Option, Result, Ok, Err, IfOk, IfErr}
 use Rattle.outside.specs.Outside.{File}
-use Rattle.domain_plan.specs.Refusals.{Refusal}
-use Rattle.domain_plan.specs.declared.planned.PlanFault.{PlanFault}
-use Rattle.domain_plan.specs.declared.planned.PlanFault.TheVariants as plan_faults
-use Rattle.guest_images.specs.Walks.{ArePlannedApart}
+use Rattle.item_checks.specs.Refusals.{Refusal}
+use Rattle.item_checks.specs.declared.faults.PlanFault.{PlanFault}
+use Rattle.item_checks.specs.declared.faults.PlanFault.TheVariants as plan_faults
+use Rattle.domain_plan.specs.Apart.{ArePlannedApart}
 use Rattle.image_audit.specs.Audits.{AfterAudits, FindsNothing}
 use Rattle.image_audit.specs.Texts.{checked_line}
 use Rattle.image_audit.proofs.AuditSteps.{audits_step}
@@ -19,8 +19,8 @@ use Rattle.run_steps.specs.declared.stop.Stop.{Stop}
 use Rattle.run_steps.specs.declared.stop.Stop.TheVariants as stops
 use Rattle.run_steps.proofs.Due.{due_here, due_anyway, stopped_later, due_later}
 use Rattle.run_steps.proofs.Step.{IsStep, on_result_step}
-use Rattle.tree_plan.specs.Descriptions.{Description}
-use Rattle.tree_plan.specs.TreePlans.{TreePlan, plan_of, is_common, IsFaultOf}
+use Rattle.domain_plan.specs.Descriptions.{Description}
+use Rattle.domain_plan.specs.TreePlans.{TreePlan, plan_of, is_common, IsFaultOf}
 use Rattle.dom0less_words.specs.Words.{Word, Source}
 use Rattle.build_sources.specs.Sources.{Stand, AfterSource, StandsOn, folder_of}
 use Rattle.build_sources.specs.Partials.{AfterPartials, Describes}

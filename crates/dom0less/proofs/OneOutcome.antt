@@ -4,8 +4,8 @@ use Rattle.std.specs.Prelude.{Option}
 use Rattle.outside.specs.Outside.{File}
 use Rattle.run_steps.specs.Laws.{IsDetermined}
 use Rattle.run_steps.proofs.OneOutcome.{on_result_decides, refusals_agree, writings_agree, never_agrees, tree_file_decides}
-use Rattle.tree_plan.specs.Descriptions.{Description}
-use Rattle.tree_plan.specs.TreePlans.{plan_of}
+use Rattle.domain_plan.specs.Descriptions.{Description}
+use Rattle.domain_plan.specs.TreePlans.{plan_of}
 use Rattle.image_audit.proofs.AuditSteps.{audits_decide}
 use Rattle.dom0less_words.specs.Words.{Word, Source, Asked, Build, Check, Script, Show, Generate}
 use Rattle.dom0less_words.specs.Settings.{settings}

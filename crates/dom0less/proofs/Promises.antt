@@ -4,7 +4,7 @@ use Rattle.std.specs.Prelude.{◌⊎◌, Option, Some, Result, Ok, Err, IfErr}
 use Rattle.outside.specs.Outside.{File}
 use Rattle.outside.specs.declared.status.Status.{Status}
 use Rattle.outside.specs.declared.status.Status.TheVariants as statuses
-use Rattle.domain_plan.specs.Refusals.{Refusal}
+use Rattle.item_checks.specs.Refusals.{Refusal}
 use Rattle.fdt_listing.specs.Listing.{listing}
 use Rattle.run_steps.specs.Endings.{Refuses, Builds}
 use Rattle.run_steps.specs.Messages.{refused_message}
@@ -15,8 +15,8 @@ use Rattle.run_steps.specs.declared.stop.Stop.TheVariants.{Because}
 use Rattle.run_steps.specs.Trees.{AfterTreeFile, IsTreeFile}
 use Rattle.run_steps.proofs.Step.{found_by}
 use Rattle.run_steps.proofs.ReadingSteps.{tree_file_step}
-use Rattle.tree_plan.specs.Descriptions.{Description}
-use Rattle.tree_plan.specs.TreePlans.{TreePlan}
+use Rattle.domain_plan.specs.Descriptions.{Description}
+use Rattle.domain_plan.specs.TreePlans.{TreePlan}
 use Rattle.dom0less_words.specs.Words.{Word, Source, Config, Replay, Ready, ScriptAsked, Asked, Build}
 use Rattle.dom0less_words.specs.Settings.{settings}
 use Rattle.build_sources.specs.Configs.{Made, AfterMade, IsMade}

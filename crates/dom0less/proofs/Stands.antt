@@ -11,7 +11,7 @@ use Rattle.run_steps.specs.declared.output.Build.{Build}
 use Rattle.run_steps.specs.declared.stop.Stop.{Stop}
 use Rattle.run_steps.proofs.Due.{due_here, own_due, stopped_later, stopped_anyway}
 use Rattle.run_steps.proofs.Step.{IsStep, on_result_step}
-use Rattle.tree_plan.specs.Descriptions.{Description}
+use Rattle.domain_plan.specs.Descriptions.{Description}
 use Rattle.dom0less_words.specs.Words.{Word, Source}
 use Rattle.build_sources.specs.Sources.{Stand, AfterSource, StandsOn, folder_of}
 use Rattle.build_sources.specs.Edited.{HasEditedTree}

@@ -3,8 +3,8 @@ use Rattle.std.specs.Prelude.{List, [], length, Option}
 use Rattle.outside.specs.Outside.{File}
 use Rattle.run_steps.specs.Endings.{Outcome}
 use Rattle.run_steps.specs.Steps.{IsWriting, OnResult}
-use Rattle.tree_plan.specs.Descriptions.{Description}
-use Rattle.tree_plan.specs.TreePlans.{TreePlan, plan_of}
+use Rattle.domain_plan.specs.Descriptions.{Description}
+use Rattle.domain_plan.specs.TreePlans.{TreePlan, plan_of}
 use Rattle.dom0less_words.specs.Words.{Word, Source}
 use Rattle.build_sources.specs.Sources.{Stand, AfterSource, folder_of}
 use Rattle.build_sources.specs.Partials.{AfterPartials}

@@ -4,8 +4,8 @@ use Rattle.build_report.specs.Lines.{generated_line}
 use Rattle.run_steps.specs.Endings.{Outcome}
 use Rattle.run_steps.specs.Steps.{IsWriting}
 use Rattle.tree_generator.specs.Generated.{generated_tree}
-use Rattle.tree_plan.specs.Descriptions.{Description}
-use Rattle.tree_plan.specs.TreePlans.{TreePlan}
+use Rattle.domain_plan.specs.Descriptions.{Description}
+use Rattle.domain_plan.specs.TreePlans.{TreePlan}
 use Rattle.build_outputs.specs.Builds.{AfterItems}
 use Rattle.build_outputs.specs.Totals.{totals_of}
 use Rattle.build_outputs.specs.declared.totals.Totals.{Totals}

@@ -1,7 +1,7 @@
 -- What status 0 promises of what was written, and what a refusal names.
 use Rattle.std.specs.Prelude.{◌≡◌, ◌++◌, ℕ, List, [], length, Option, Ok, Err}
 use Rattle.outside.specs.Outside.{File}
-use Rattle.domain_plan.specs.Refusals.{Refusal}
+use Rattle.item_checks.specs.Refusals.{Refusal}
 use Rattle.fdt_listing.specs.Listing.{listing}
 use Rattle.outside.specs.declared.status.Status.TheVariants as statuses
 use Rattle.run_steps.specs.Endings.{Refuses}
@@ -12,8 +12,8 @@ use Rattle.run_steps.specs.Trees.{FlatTree, IsTreeFile}
 use Rattle.guest_images.specs.Walks.{AllWalk, MeetOnlyIn, AreApart}
 use Rattle.image_audit.specs.Audits.{AreAudited}
 use Rattle.image_audit.specs.Texts.{checked_line}
-use Rattle.tree_plan.specs.Descriptions.{Description}
-use Rattle.tree_plan.specs.TreePlans.{TreePlan, plan_of, is_common}
+use Rattle.domain_plan.specs.Descriptions.{Description}
+use Rattle.domain_plan.specs.TreePlans.{TreePlan, plan_of, is_common}
 use Rattle.dom0less_words.specs.Words.{Word, Source, Config}
 use Rattle.build_sources.specs.Sources.{Stand, StandsOn, folder_of}
 use Rattle.build_sources.specs.Edited.{HasEditedTree}

@@ -7,7 +7,7 @@ ghost use Rattle.dom0less_words.specs.Meant.{meant_source};
 ghost use Rattle.run_steps.specs.Outputs.{file_of, files_of, report_of};
 ghost use Rattle.run_steps.specs.PrivateOutcomes.{outcome_of};
 ghost use Rattle.run_steps.specs.Stops.{IsDue, IsOwnDue};
-ghost use Rattle.tree_plan.specs.Descriptions.{description_of};
+ghost use Rattle.domain_plan.specs.Descriptions.{description_of};
 ghost use Rattle.build_sources.specs.Meant.{meant_stand};
 ghost use Rattle.dom0less.specs.Builds.{IsBuildJob, IsDescribedJob};
 ghost use Rattle.dom0less.specs.Headline.{IsDescribedBuild, IsStandBuild};

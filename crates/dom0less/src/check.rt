@@ -5,7 +5,7 @@ ghost use Rattle.dom0less_words.specs.Meant.{meant_source};
 ghost use Rattle.run_steps.specs.Outputs.{files_of, report_of};
 ghost use Rattle.run_steps.specs.PrivateOutcomes.{outcome_of};
 ghost use Rattle.run_steps.specs.Stops.{IsDue};
-ghost use Rattle.tree_plan.specs.Descriptions.{description_of};
+ghost use Rattle.domain_plan.specs.Descriptions.{description_of};
 ghost use Rattle.run_steps.specs.Endings.{Builds};
 ghost use Rattle.image_audit.specs.Texts.{checked_line};
 ghost use Rattle.dom0less.specs.Checks.{IsCheckJob, IsDescribedCheck};
@@ -14,13 +14,13 @@ ghost use Rattle.dom0less.specs.Headline.{IsDescribedAudit, IsPlanAudited};
 use build_outputs::plan_stop;
 use build_sources::{Stand, folder_of, read_partials, read_source};
 use dom0less_words::Source;
+use domain_plan::plan_tree;
 use fdt_tree::Tree;
 use image_audit::{audit_images, make_checked_line};
 use outside::Files;
 use run_steps::{Build, Stop};
 use std::alloc::{AllocError, Global};
 use texts::List;
-use tree_plan::plan_tree;
 
 /// What is put where nothing is found in the images of the guests that are described where a build begins; the images are in
 /// a folder, where one is given.

@@ -14,19 +14,19 @@ use Rattle.described.specs.declared.item.What.TheVariants as whats
 use Rattle.frame_alloc.specs.Frames.{frames_in, AreFrames, AreFramesFrom, AreFrameRanges}
 use Rattle.frame_alloc.proofs.FreeFrames.{is_in_nil, is_in_cons, AreFramesFrom-weaker}
 use Rattle.frame_alloc.proofs.AscendingFrames.{AreFrames-frames_in}
-use Rattle.domain_plan.specs.declared.guests.Guest.{Guest}
+use Rattle.item_checks.specs.declared.guests.Guest.{Guest}
 use Rattle.domain_bindings.specs.declared.host.Host.{Host}
 use Rattle.described.specs.declared.loaded.Loaded.{Loaded}
 use Rattle.frame_ranges.specs.Ranges.{holds}
-use Rattle.domain_plan.specs.Entries.{Entry, joined}
-use Rattle.domain_plan.specs.Taken.{Passed, what_of, belongs_to, all_passed}
-use Rattle.domain_plan.specs.Reasons.{are_one_region}
-use Rattle.domain_plan.specs.Refusals.{Refusal, first_refused}
+use Rattle.item_checks.specs.Entries.{Entry, joined}
+use Rattle.item_checks.specs.Taken.{Passed, what_of, belongs_to, all_passed, passed_of}
+use Rattle.item_checks.specs.Reasons.{are_one_region}
+use Rattle.item_checks.specs.Refusals.{Refusal, first_refused}
 use Rattle.domain_plan.specs.Draws.{Heaps, is_claimed, free_frames, heaps}
 use Rattle.domain_plan.specs.GuestMaps.{guest_ranges}
 use Rattle.domain_plan.specs.Arguments.{AreSound}
 use Rattle.domain_plan.specs.Regions.{Runs, requests, runs_drawn}
-use Rattle.domain_plan.specs.Plans.{Draws, passed_of, and_heaps, draws_after, draws, outcome, unless_refused}
+use Rattle.domain_plan.specs.Plans.{Draws, and_heaps, draws_after, draws, outcome, unless_refused}
 use Rattle.domain_plan.specs.Apart.{is_in_one_region, MeetWhereShared}
 use Rattle.frame_ranges.proofs.CommonFrames.{true_or_false, not_both, or_tells, or_left, or_right}
 use Rattle.domain_plan.proofs.DrawLemmas.{AreDraws, heaps_tell}

@@ -7,10 +7,10 @@ use Rattle.texts.specs.Consecutive.{is_in}
 use Rattle.texts.specs.declared.ranges.FrameRange.{FrameRange}
 use Rattle.frame_alloc.specs.Frames.{AreFrames, is_within, without, lowest_frame, lowest_chunk}
 use Rattle.frame_alloc.proofs.FreeFrames.{is_in-without, lowest_frame-member, lowest_group-tells, AreFrames-without}
-use Rattle.domain_plan.specs.declared.guests.Guest.{Guest}
+use Rattle.item_checks.specs.declared.guests.Guest.{Guest}
 use Rattle.described.specs.declared.why.Why.TheVariants.{NoRam}
 use Rattle.frame_ranges.specs.Ranges.{holds}
-use Rattle.domain_plan.specs.Refusals.{Refusal}
+use Rattle.item_checks.specs.Refusals.{Refusal}
 use Rattle.domain_plan.specs.Draws.{Drawn, Heaps, ◌>>=◌, groups_drawn, drawn, heaps, and_drawn, heap_item}
 use Rattle.frame_ranges.proofs.CommonFrames.{true_or_false, not_both, or_tells, within_bounds}
 

@@ -10,7 +10,7 @@ use Rattle.described.specs.declared.map_range.Kind.TheVariants.{Ram}
 use Rattle.frame_alloc.specs.Frames.{is_within}
 use Rattle.frame_alloc.proofs.Without.{is_within-in}
 use Rattle.frame_ranges.specs.Ranges.{holds}
-use Rattle.domain_plan.specs.Taken.{Passed, belongs_to, bank_pages, bank_size}
+use Rattle.item_checks.specs.Taken.{Passed, belongs_to, bank_pages, bank_size}
 use Rattle.domain_plan.specs.GuestMaps.{onto, laid, maps_of}
 use Rattle.domain_plan.specs.Apart.{IsMappedBy, IsFunction}
 pub use Rattle.domain_plan.specs.PrivateLaying.{AreApart}

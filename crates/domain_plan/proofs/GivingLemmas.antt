@@ -7,17 +7,17 @@ use Rattle.described.specs.declared.map_range.MapRange.{MapRange}
 use Rattle.described.specs.declared.item.Described.{Described}
 use Rattle.described.specs.declared.item.What.{What}
 use Rattle.domain_plan.specs.declared.giving.Given.{Given}
-use Rattle.domain_plan.specs.declared.state.Owner.{Owner}
-use Rattle.domain_plan.specs.declared.state.State.{State}
-use Rattle.domain_plan.specs.Taken.{Passed, what_of, belongs_to, pages_of, passing}
+use Rattle.domain_plan.specs.declared.giving.Said.{Said}
+use Rattle.item_checks.specs.declared.state.Owner.{Owner}
+use Rattle.item_checks.specs.Taken.{Passed, what_of, belongs_to, pages_of, passing, all_passed}
 use Rattle.domain_plan.specs.GuestMaps.{laid, maps_of, guest_ranges}
 use Rattle.domain_plan.specs.PrivateLaying.{maps_by}
 use Rattle.domain_plan.specs.Plans.{said_by, static_memory, region_of, port_of}
-use Rattle.domain_plan.specs.PrivateStanding.{Stands, taken_from, entry_of}
-use Rattle.domain_plan.specs.PrivateGiving.{irq_of, Gives}
+use Rattle.item_checks.specs.Standing.{Stands, entry_of}
+use Rattle.domain_plan.specs.PrivateGiving.{irq_of, HasSaid, SaysToo, Gives}
 use Rattle.std.proofs.lemmas.List.{map-append}
-use Rattle.domain_plan.specs.Taken.{all_passed}
-use Rattle.domain_plan.proofs.LoopLemmas.{all_passed-append}
+use Rattle.item_checks.proofs.LoopLemmas.{all_passed-append}
+use Rattle.item_checks.proofs.StandingLemmas.{stands_none}
 use Rattle.domain_plan.proofs.MapLemmas.{item_ranges}
 use Rattle.domain_plan.proofs.GuestsLaw.{guest_belongs}
 
@@ -37,21 +37,26 @@ ranges_more number drawn before mine belongs =
     ∙ ap (λ (xs : List MapRange). flat_map (item_ranges number) before ++ xs) (append-nil (maps_of mine)))
     ∙ sym (append_assoc (laid 0 drawn) (flat_map (item_ranges number) before) (maps_of mine))
 
+-- one item more says what it says
+says_more : (number : ℕ) (before : List Passed) (mine : Passed) (old new : Said) → belongs_to (Some number) mine ≡ true → HasSaid number before old → SaysToo (what_of mine) old new → HasSaid number (before ++ mine ∷ []) new
+says_more number before mine old new belongs has more = record {
+  statics = more.statics ∙ ap (λ (xs : List (ℕ × ℕ)). xs ++ static_memory (what_of mine)) has.statics ∙ sym (said_more static_memory number before mine belongs);
+  irqs = more.irqs ∙ ap (λ (xs : List ℕ). xs ++ irq_of (what_of mine)) has.irqs ∙ sym (said_more irq_of number before mine belongs);
+  shared = more.shared ∙ ap (λ (xs : List (List ℕ × ℕ × ℕ)). xs ++ region_of (what_of mine)) has.shared ∙ sym (said_more region_of number before mine belongs);
+  ports = more.ports ∙ ap (λ (xs : List (ℕ × ℕ × ℕ)). xs ++ port_of (what_of mine)) has.ports ∙ sym (said_more port_of number before mine belongs);
+}
+
 -- one item more gives what it says and maps
 pub gives_more : (owner : Owner) (number : ℕ) (drawn : List FrameRange) (before : List Passed) (described : Described) (pages : List FrameRange) (old new : Given) → owner.guest ≡ Some number → Gives number drawn before old →
     Stands (Some number) (before ++ passing before (entry_of owner described) ∷ []) new.state → pages ≡ pages_of before (entry_of owner described) →
-    new.ranges.items ≡ old.ranges.items ++ maps_by described.what pages → new.statics ≡ old.statics ++ static_memory described.what → new.irqs.items ≡ old.irqs.items ++ irq_of described.what →
-    new.shared ≡ old.shared ++ region_of described.what → new.ports ≡ old.ports ++ port_of described.what →
+    new.ranges.items ≡ old.ranges.items ++ maps_by described.what pages → SaysToo described.what old.said new.said →
     Gives number drawn (before ++ passing before (entry_of owner described) ∷ []) new
-gives_more owner number drawn before described pages old new is gives stands filled ranges statics irqs shared ports = record {
+gives_more owner number drawn before described pages old new is gives stands filled ranges said = record {
   stands = stands;
   ranges = ranges ∙ ap (λ (xs : List MapRange). xs ++ maps_by described.what pages) gives.ranges
       ∙ ap (λ (ps : List FrameRange). guest_ranges before number drawn ++ maps_by described.what ps) filled
       ∙ sym (ranges_more number drawn before mine belongs);
-  statics = statics ∙ ap (λ (xs : List (ℕ × ℕ)). xs ++ static_memory described.what) gives.statics ∙ sym (said_more static_memory number before mine belongs);
-  irqs = irqs ∙ ap (λ (xs : List ℕ). xs ++ irq_of described.what) gives.irqs ∙ sym (said_more irq_of number before mine belongs);
-  shared = shared ∙ ap (λ (xs : List (List ℕ × ℕ × ℕ)). xs ++ region_of described.what) gives.shared ∙ sym (said_more region_of number before mine belongs);
-  ports = ports ∙ ap (λ (xs : List (ℕ × ℕ × ℕ)). xs ++ port_of described.what) gives.ports ∙ sym (said_more port_of number before mine belongs);
+  said = says_more number before mine old.said new.said belongs gives.said said;
 }
   where
     mine : Passed
@@ -60,21 +65,13 @@ gives_more owner number drawn before described pages old new is gives stands fil
     belongs : belongs_to (Some number) mine ≡ true
     belongs = guest_belongs number mine is
 
--- a state that stands for no item stands for none of a guest
-stands_none : (number : ℕ) (state : State) → Stands None [] state → Stands (Some number) [] state
-unfolding taken_from
-stands_none number state s = record { items = s.items; claims = s.claims; loads = s.loads; pages = s.pages; direct = s.direct; static_pages = s.static_pages; triples = s.triples; regions = s.regions; spis = s.spis; console = s.console; takers = s.takers }
-
 -- no item gives nothing, beside what was drawn
-pub gives_none : (number : ℕ) (drawn : List FrameRange) (given : Given) → Stands None [] given.state → given.ranges.items ≡ laid 0 drawn → given.statics ≡ [] → given.irqs.items ≡ [] → given.shared ≡ [] → given.ports ≡ [] → Gives number drawn [] given
+pub gives_none : (number : ℕ) (drawn : List FrameRange) (given : Given) → Stands None [] given.state → given.ranges.items ≡ laid 0 drawn → HasSaid number [] given.said → Gives number drawn [] given
 unfolding guest_ranges
-gives_none number drawn given stands ranges statics irqs shared ports = record {
+gives_none number drawn given stands ranges said = record {
   stands = stands_none number given.state stands;
   ranges = ranges ∙ sym (append-nil (laid 0 drawn));
-  statics = statics;
-  irqs = irqs;
-  shared = shared;
-  ports = ports;
+  said = said;
 }
 
 -- items, and then more

@@ -7,13 +7,13 @@ use Rattle.std.proofs.lemmas.List.Folds.{list_any-append}
 use Rattle.texts.specs.declared.ranges.FrameRange.{FrameRange}
 use Rattle.described.specs.declared.why.Why.TheVariants.{NoRam}
 use Rattle.frame_alloc.specs.Frames.{frames_in, is_within}
-use Rattle.domain_plan.specs.declared.guests.Guest.{Guest}
-use Rattle.domain_plan.specs.declared.state.Taken.{Taken}
+use Rattle.item_checks.specs.declared.guests.Guest.{Guest}
+use Rattle.item_checks.specs.declared.state.Taken.{Taken}
 use Rattle.frame_ranges.specs.Ranges.{holds}
-use Rattle.domain_plan.specs.Taken.{Passed}
-use Rattle.domain_plan.specs.Refusals.{Refusal}
+use Rattle.item_checks.specs.Taken.{Passed}
+use Rattle.item_checks.specs.Refusals.{Refusal}
 use Rattle.domain_plan.specs.Draws.{Drawn, Heaps, drawn, heaps, and_drawn, heap_item, is_claimed, free_frames}
-use Rattle.domain_plan.specs.PrivateStanding.{taken_at, taken_from, claims_taken}
+use Rattle.item_checks.specs.Standing.{taken_at, taken_from, claims_taken}
 
 -- what guests before drew, and then the others
 abbrev pub after_draws : List (List FrameRange) → Result Heaps Refusal → Result Heaps Refusal

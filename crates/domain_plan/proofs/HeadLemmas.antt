@@ -8,13 +8,12 @@ use Rattle.described.specs.declared.item.Described.{Described}
 use Rattle.described.specs.declared.item.What.{What}
 use Rattle.described.specs.declared.why.Why.TheVariants.{NoRam}
 use Rattle.frame_alloc.specs.Frames.{lowest_frame, lowest_chunk, without}
-use Rattle.domain_plan.specs.declared.guests.Guest.{Guest}
-use Rattle.domain_plan.specs.Entries.{Entry, of_host, of_guest, guest_entries, joined, load_item, items_of, is_read}
-use Rattle.domain_plan.specs.Taken.{Passed, passing, all_passed}
-use Rattle.domain_plan.specs.Refusals.{Refusal}
+use Rattle.item_checks.specs.declared.guests.Guest.{Guest}
+use Rattle.item_checks.specs.Entries.{Entry, of_host, of_guest, guest_entries, joined, load_item, items_of, is_read}
+use Rattle.item_checks.specs.Taken.{Passed, passing, all_passed}
+use Rattle.item_checks.specs.Refusals.{Refusal, or_later, first_refused, first_there, cross_reasons}
 use Rattle.domain_plan.specs.Draws.{Drawn, Heaps, ◌>>=◌, groups_drawn, drawn, heaps, and_drawn, heap_item}
 use Rattle.domain_plan.specs.Arguments.{IsSoundGuest, head_of, has_no_fault}
-use Rattle.domain_plan.specs.Refusals.{or_later, first_refused, first_there, cross_reasons}
 use Rattle.std.specs.Option.{option_or}
 use Rattle.described.specs.declared.why.Why.{Why}
 use Rattle.domain_bindings.specs.declared.host.Host.{Host}

@@ -5,11 +5,11 @@ use Rattle.texts.specs.declared.ranges.BaseSize.{BaseSize}
 use Rattle.texts.specs.declared.ranges.FrameRange.{FrameRange}
 use Rattle.described.specs.declared.item.What.{What}
 use Rattle.described.specs.declared.item.What.TheVariants as whats
-use Rattle.domain_plan.specs.declared.state.Taken.{Taken}
+use Rattle.item_checks.specs.declared.state.Taken.{Taken}
 use Rattle.frame_ranges.specs.Ranges.{touched, cut, between}
-use Rattle.domain_plan.specs.Entries.{Entry}
-use Rattle.domain_plan.specs.Taken.{Passed, is_loaded, is_repeated, region_claims, claims_of, passing, all_passed}
-use Rattle.domain_plan.specs.PrivateStanding.{taken_at, taken_from, claims_taken}
+use Rattle.item_checks.specs.Entries.{Entry}
+use Rattle.item_checks.specs.Taken.{Passed, is_loaded, is_repeated, region_claims, claims_of, passing, all_passed}
+use Rattle.item_checks.specs.Standing.{taken_at, taken_from, claims_taken}
 
 -- ranges that end at or below frame 2^28
 abbrev pub AreLow : List FrameRange → Type 0

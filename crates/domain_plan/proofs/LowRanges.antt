@@ -17,15 +17,15 @@ use Rattle.described.specs.declared.why.Why.{Why}
 use Rattle.frame_alloc.specs.Frames.{AreFrames, is_within}
 use Rattle.frame_alloc.proofs.FreeFrames.{AreFramesFrom-member}
 use Rattle.frame_alloc.proofs.Without.{is_within-in}
-use Rattle.domain_plan.specs.declared.guests.Guest.{Guest}
+use Rattle.item_checks.specs.declared.guests.Guest.{Guest}
 use Rattle.domain_bindings.specs.declared.host.Host.{Host}
 use Rattle.described.specs.declared.loaded.Loaded.{Loaded}
 use Rattle.frame_ranges.specs.Ranges.{holds, touched, cut, between}
-use Rattle.domain_plan.specs.Entries.{Entry, of_host, of_guest, guest_entries, joined, load_item, is_read, items_of}
-use Rattle.domain_plan.specs.Taken.{Passed, what_of, belongs_to, static_pages, is_direct, pages_before, is_repeated, bank_pages, bank_size, pages_of, passing, all_passed}
+use Rattle.item_checks.specs.Entries.{Entry, of_host, of_guest, guest_entries, joined, load_item, is_read, items_of}
+use Rattle.item_checks.specs.Taken.{Passed, what_of, belongs_to, static_pages, is_direct, pages_before, is_repeated, bank_pages, bank_size, pages_of, passing, all_passed, total}
 use Rattle.domain_plan.specs.Draws.{Heaps, heaps}
 use Rattle.domain_plan.specs.GuestMaps.{onto, laid, maps_of, guest_ranges}
-use Rattle.domain_plan.specs.PrivateLaying.{total, AreLowFrames, maps_by}
+use Rattle.domain_plan.specs.PrivateLaying.{AreLowFrames, maps_by}
 use Rattle.described.specs.Sound.{AreWholePages, IsSound, SoundUnless}
 use Rattle.domain_plan.specs.Arguments.{AreSound, IsSoundGuest, has_no_fault, whats_of, head_of}
 use Rattle.frame_ranges.proofs.CommonFrames.{or_left, or_right}

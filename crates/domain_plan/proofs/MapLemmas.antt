@@ -16,9 +16,9 @@ use Rattle.frame_alloc.specs.Frames.{is_within}
 use Rattle.frame_alloc.proofs.Without.{is_within-in}
 use Rattle.domain_bindings.specs.declared.host.Host.{Host}
 use Rattle.frame_ranges.specs.Ranges.{holds, touched, cut}
-use Rattle.domain_plan.specs.Taken.{Passed, what_of, belongs_to, bank_pages, is_direct, pages_before, is_repeated, claims_of, pages_of}
+use Rattle.item_checks.specs.Taken.{Passed, what_of, belongs_to, bank_pages, is_direct, pages_before, is_repeated, claims_of, pages_of}
 use Rattle.domain_plan.specs.GuestMaps.{onto, laid, maps_of, guest_ranges}
-pub use Rattle.domain_plan.specs.PrivateLaying.{total}
+pub use Rattle.item_checks.specs.Taken.{total}
 use Rattle.described.specs.Sound.{AreWholePages, IsSound}
 use Rattle.frame_ranges.proofs.CommonFrames.{or_left, or_right, within_tells, holds_one}
 use Rattle.domain_plan.proofs.ClearLemmas.{IsClear, is_mapping}

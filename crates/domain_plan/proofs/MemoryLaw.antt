@@ -9,19 +9,19 @@ use Rattle.described.specs.declared.map_range.MapRange.{MapRange}
 use Rattle.described.specs.declared.item.Described.{Described}
 use Rattle.described.specs.declared.item.What.{What}
 use Rattle.domain_bindings.specs.declared.host.Host.{Host}
-use Rattle.domain_plan.specs.declared.guests.Guest.{Guest}
+use Rattle.item_checks.specs.declared.guests.Guest.{Guest}
 use Rattle.described.specs.declared.loaded.Loaded.{Loaded}
 use Rattle.frame_ranges.specs.Ranges.{holds}
 use Rattle.frame_ranges.proofs.CommonFrames.{true_or_false, not_both}
-use Rattle.domain_plan.specs.Entries.{joined, of_guest, is_read, items_of}
-use Rattle.domain_plan.specs.Taken.{Passed, says_direct, is_direct, static_pages, pages_before, bank_pages, all_passed}
+use Rattle.item_checks.specs.Entries.{joined, of_guest, is_read, items_of}
+use Rattle.item_checks.specs.Taken.{Passed, says_direct, is_direct, static_pages, pages_before, bank_pages, all_passed, passed_of, total}
 use Rattle.frame_alloc.specs.Frames.{AreFrames}
-use Rattle.domain_plan.specs.Refusals.{first_refused}
+use Rattle.item_checks.specs.Refusals.{first_refused}
 use Rattle.domain_plan.specs.Draws.{Heaps, heaps}
 use Rattle.domain_plan.specs.GuestMaps.{laid, guest_ranges}
-use Rattle.domain_plan.specs.PrivateLaying.{total, maps_by, AreApart}
+use Rattle.domain_plan.specs.PrivateLaying.{maps_by, AreApart}
 use Rattle.domain_plan.specs.Arguments.{AreRead, IsSoundGuest, head_of}
-use Rattle.domain_plan.specs.Plans.{passed_of, said_by, static_memory, banks_filled, memories_of}
+use Rattle.domain_plan.specs.Plans.{said_by, static_memory, banks_filled, memories_of}
 use Rattle.domain_plan.specs.Memories.{is_ram, is_listed, HasOneKindOfMemory}
 use Rattle.domain_plan.proofs.GuestsLaw.{sound_guest}
 use Rattle.domain_plan.proofs.HeadLemmas.{heaps_total}

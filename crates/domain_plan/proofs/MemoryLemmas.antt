@@ -19,10 +19,10 @@ use Rattle.frame_alloc.specs.Frames.{is_within}
 use Rattle.frame_alloc.proofs.FreeFrames.{is_in_nil, is_in-append, is_in-numbers}
 use Rattle.frame_ranges.specs.Ranges.{touched, holds}
 use Rattle.frame_ranges.proofs.CommonFrames.{true_or_false, same_test, or_tells, or_left, or_right, within_tells}
-use Rattle.domain_plan.specs.Entries.{of_guest}
-use Rattle.domain_plan.specs.Taken.{Passed, what_of, belongs_to, says_direct, is_direct, static_pages, pages_before, bank_pages, bank_size, passing, all_passed}
+use Rattle.item_checks.specs.Entries.{of_guest}
+use Rattle.item_checks.specs.Taken.{Passed, what_of, belongs_to, says_direct, is_direct, static_pages, pages_before, bank_pages, bank_size, passing, all_passed, total}
 use Rattle.domain_plan.specs.GuestMaps.{onto, laid, maps_of}
-use Rattle.domain_plan.specs.PrivateLaying.{total, maps_by, AreApart}
+use Rattle.domain_plan.specs.PrivateLaying.{maps_by, AreApart}
 use Rattle.domain_plan.specs.Memories.{is_ram_kind, is_ram_target, is_ram, is_listed}
 use Rattle.domain_plan.specs.Plans.{said_by, as_pair, static_memory}
 use Rattle.domain_plan.proofs.FunctionLemmas.{banks_tell, banks_low, banks_high, banks_within}

@@ -12,19 +12,19 @@ use Rattle.described.specs.declared.map_range.MapRange.{MapRange}
 use Rattle.described.specs.declared.item.Described.{Described}
 use Rattle.described.specs.declared.item.What.{What}
 use Rattle.described.specs.declared.item.What.TheVariants as whats
-use Rattle.domain_plan.specs.declared.guests.Guest.{Guest}
+use Rattle.item_checks.specs.declared.guests.Guest.{Guest}
 use Rattle.domain_bindings.specs.declared.host.Host.{Host}
 use Rattle.described.specs.declared.loaded.Loaded.{Loaded}
 use Rattle.domain_plan.specs.declared.planned.GuestPlan.{GuestPlan}
 use Rattle.frame_ranges.specs.Ranges.{touched, cut}
-use Rattle.domain_plan.specs.Entries.{Entry, of_host, of_guest, guest_entries, load_item, is_read, items_of}
-use Rattle.domain_plan.specs.Taken.{Passed, what_of, belongs_to, says_direct, is_direct, static_pages, pages_before, is_range, is_repeated, bank_pages, pages_of, passing, all_passed}
-use Rattle.domain_plan.specs.Reasons.{is_irq, has_console, is_with_console}
-use Rattle.domain_plan.specs.Layouts.{layout_of}
+use Rattle.item_checks.specs.Entries.{Entry, of_host, of_guest, guest_entries, load_item, is_read, items_of}
+use Rattle.item_checks.specs.Taken.{Passed, what_of, belongs_to, says_direct, is_direct, static_pages, pages_before, is_range, is_repeated, bank_pages, pages_of, passing, all_passed, passed_of}
+use Rattle.item_checks.specs.Reasons.{is_irq, has_console, is_with_console}
+use Rattle.item_checks.specs.Layouts.{layout_of}
 use Rattle.domain_plan.specs.GuestMaps.{laid, guest_ranges}
 use Rattle.domain_plan.specs.PrivateLaying.{maps_by}
-use Rattle.domain_plan.specs.Plans.{passed_of, said_by, static_memory, banks_filled, region_of, port_of, IsGuestPlan}
-use Rattle.domain_plan.proofs.LoopLemmas.{all_passed-append}
+use Rattle.domain_plan.specs.Plans.{said_by, static_memory, banks_filled, region_of, port_of, IsGuestPlan}
+use Rattle.item_checks.proofs.LoopLemmas.{all_passed-append}
 use Rattle.domain_plan.proofs.GuestsLaw.{belongs_tells}
 
 -- what an item describes, with the pages that it fills

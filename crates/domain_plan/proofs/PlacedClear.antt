@@ -21,11 +21,11 @@ use Rattle.frame_alloc.proofs.FreeFrames.{is_in_cons}
 use Rattle.domain_bindings.specs.declared.host.Host.{Host}
 use Rattle.frame_ranges.specs.Ranges.{holds, have_common, lie_in}
 use Rattle.frame_ranges.proofs.CommonFrames.{true_or_false, not_both, or_tells, and_tells, common_tells, common_misses, is_in-frames_in}
-use Rattle.domain_plan.specs.Entries.{Entry}
-use Rattle.domain_plan.specs.Taken.{Passed, item_of, what_of, belongs_to, passing, all_passed}
+use Rattle.item_checks.specs.Entries.{Entry}
+use Rattle.item_checks.specs.Taken.{Passed, item_of, what_of, belongs_to, passing, all_passed}
 use Rattle.domain_plan.specs.Draws.{free_frames, is_claimed}
-use Rattle.domain_plan.specs.Reasons.{naming_first, of_one_guest, of_another_guest, is_not_ram, not_ram, are_one_region, blocks, host_overlap, layout, area_pages, layout_at, fills, guest_overlap, is_past_spis, irq_too_high, has_console, is_irq, irq_of_console, irq_of_another, shm_twice, is_same_host, have_one_base, unlike, shm_differs, is_owner, owner_twice}
-use Rattle.domain_plan.specs.Refusals.{why, or_later, first_refused, first_there, cross_reasons, reasons_by}
+use Rattle.item_checks.specs.Reasons.{naming_first, of_one_guest, of_another_guest, is_not_ram, not_ram, are_one_region, blocks, host_overlap, layout, area_pages, layout_at, fills, guest_overlap, is_past_spis, irq_too_high, has_console, is_irq, irq_of_console, irq_of_another, shm_twice, is_same_host, have_one_base, unlike, shm_differs, is_owner, owner_twice}
+use Rattle.item_checks.specs.Refusals.{why, or_later, first_refused, first_there, cross_reasons, reasons_by}
 use Rattle.domain_plan.specs.Regions.{host_in, placed_what, placed_entry, placed}
 use Rattle.domain_plan.specs.declared.runs.Run.{Run}
 use Rattle.domain_plan.proofs.ApartLemmas.{free_unclaimed, is_in-filter}

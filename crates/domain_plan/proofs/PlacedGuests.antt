@@ -15,12 +15,12 @@ use Rattle.described.specs.declared.why.Why.{Why}
 use Rattle.described.specs.declared.why.Why.TheVariants.{TooHigh, NoRam}
 use Rattle.domain_bindings.specs.declared.domain.Domain.{Domain}
 use Rattle.domain_bindings.specs.declared.host.Host.{Host}
-use Rattle.domain_plan.specs.declared.guests.Guest.{Guest}
-use Rattle.domain_plan.specs.declared.guests.PartialState.{PartialState}
-use Rattle.domain_plan.specs.declared.guests.PartialState.TheVariants as states
-use Rattle.domain_plan.specs.Entries.{Entry, of_host, of_guest, load_item, partial_items, is_read, items_of, guest_entries, joined}
-use Rattle.domain_plan.specs.Taken.{static_pages}
-use Rattle.domain_plan.specs.Refusals.{Refusal}
+use Rattle.item_checks.specs.declared.guests.Guest.{Guest}
+use Rattle.item_checks.specs.declared.guests.PartialState.{PartialState}
+use Rattle.item_checks.specs.declared.guests.PartialState.TheVariants as states
+use Rattle.item_checks.specs.Entries.{Entry, of_host, of_guest, load_item, partial_items, is_read, items_of, guest_entries, joined}
+use Rattle.item_checks.specs.Taken.{static_pages}
+use Rattle.item_checks.specs.Refusals.{Refusal}
 use Rattle.domain_plan.specs.Draws.{Drawn, Heaps, drawn, heaps, and_drawn, heap_item}
 use Rattle.domain_plan.specs.Arguments.{AreSound, IsSoundGuest, whats_of}
 use Rattle.domain_plan.specs.Regions.{host_in, placed_what, placed_item, placed_entry, placed}

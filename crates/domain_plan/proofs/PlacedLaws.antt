@@ -14,15 +14,15 @@ use Rattle.frame_ranges.specs.Ranges.{holds}
 use Rattle.frame_ranges.proofs.CommonFrames.{true_or_false, not_both}
 use Rattle.domain_bindings.specs.declared.host.Host.{Host}
 use Rattle.described.specs.declared.loaded.Loaded.{Loaded}
-use Rattle.domain_plan.specs.declared.guests.Guest.{Guest}
-use Rattle.domain_plan.specs.Entries.{Entry, joined, of_guest, is_read, items_of}
-use Rattle.domain_plan.specs.Taken.{Passed, what_of, says_direct, static_pages, all_passed}
-use Rattle.domain_plan.specs.Refusals.{first_refused}
+use Rattle.item_checks.specs.declared.guests.Guest.{Guest}
+use Rattle.item_checks.specs.Entries.{Entry, joined, of_guest, is_read, items_of}
+use Rattle.item_checks.specs.Taken.{Passed, what_of, says_direct, static_pages, all_passed, passed_of}
+use Rattle.item_checks.specs.Refusals.{first_refused}
 use Rattle.domain_plan.specs.Draws.{Heaps, is_claimed, free_frames, heaps}
 use Rattle.domain_plan.specs.GuestMaps.{guest_ranges}
 use Rattle.domain_plan.specs.Arguments.{AreRead, AreSound, whats_of}
 use Rattle.domain_plan.specs.Regions.{requests, runs_drawn, placed_what, placed}
-use Rattle.domain_plan.specs.Plans.{Draws, passed_of, placed_of, memories_of, draws}
+use Rattle.domain_plan.specs.Plans.{Draws, placed_of, memories_of, draws}
 use Rattle.domain_plan.specs.Apart.{AreApart, GuestsAreApart}
 use Rattle.domain_plan.specs.Memories.{is_ram, is_listed, HasOneKindOfMemory, MemoryIsMapped}
 use Rattle.domain_plan.specs.PrivateLaying.{AreApart as AreRangesApart, AreLowRanges}

@@ -12,10 +12,10 @@ use Rattle.described.specs.declared.item.What.TheVariants as whats
 use Rattle.described.specs.declared.why.Why.{Why}
 use Rattle.domain_bindings.specs.declared.host.Host.{Host}
 use Rattle.frame_ranges.specs.Ranges.{cut, touched}
-use Rattle.domain_plan.specs.Entries.{Entry}
-use Rattle.domain_plan.specs.Taken.{Passed, item_of, what_of, belongs_to, says_direct, is_direct, static_pages, pages_before, is_load_over, is_loaded, is_range, is_repeated, bank_pages, region_claims, claims_of, pages_of, passing, all_passed}
-use Rattle.domain_plan.specs.Layouts.{layout_of}
-use Rattle.domain_plan.specs.Reasons.{naming_first, are_one_region, has_console, is_with_console, layout_at}
+use Rattle.item_checks.specs.Entries.{Entry}
+use Rattle.item_checks.specs.Taken.{Passed, item_of, what_of, belongs_to, says_direct, is_direct, static_pages, pages_before, is_load_over, is_loaded, is_range, is_repeated, bank_pages, region_claims, claims_of, pages_of, passing, all_passed}
+use Rattle.item_checks.specs.Layouts.{layout_of}
+use Rattle.item_checks.specs.Reasons.{naming_first, are_one_region, has_console, is_with_console, layout_at}
 use Rattle.domain_plan.specs.Regions.{host_in, placed_what, placed_entry, placed}
 use Rattle.domain_plan.specs.declared.runs.Run.{Run}
 use Rattle.domain_plan.proofs.OwnItems.{pages_with}

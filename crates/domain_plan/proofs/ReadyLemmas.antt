@@ -7,18 +7,18 @@ use Rattle.std.proofs.lemmas.Option.{same_Some, slice_get-map}
 use Rattle.texts.specs.declared.ranges.FrameRange.{FrameRange}
 use Rattle.described.specs.declared.item.Described.{Described}
 use Rattle.described.specs.declared.why.Why.TheVariants.{NoRam}
-use Rattle.domain_plan.specs.declared.guests.Guest.{Guest}
+use Rattle.item_checks.specs.declared.guests.Guest.{Guest}
 use Rattle.domain_bindings.specs.declared.host.Host.{Host}
 use Rattle.described.specs.declared.loaded.Loaded.{Loaded}
 use Rattle.domain_plan.specs.declared.planned.GuestPlan.{GuestPlan}
-use Rattle.domain_plan.specs.Entries.{joined, of_guest, is_read, items_of}
-use Rattle.domain_plan.specs.Taken.{Passed}
-use Rattle.domain_plan.specs.Refusals.{Refusal, first_refused}
+use Rattle.item_checks.specs.Entries.{joined, of_guest, is_read, items_of}
+use Rattle.item_checks.specs.Taken.{Passed, passed_of, total}
+use Rattle.item_checks.specs.Refusals.{Refusal, first_refused}
 use Rattle.domain_plan.specs.Draws.{Drawn, Heaps, drawn, heaps, and_drawn, heap_item}
 use Rattle.described.specs.Sound.{IsSound}
 use Rattle.domain_plan.specs.Arguments.{AreRead, IsSoundGuest}
-use Rattle.domain_plan.specs.PrivateLaying.{total, AreApart}
-use Rattle.domain_plan.specs.Plans.{passed_of, IsGuestPlan, AreGuestPlans}
+use Rattle.domain_plan.specs.PrivateLaying.{AreApart}
+use Rattle.domain_plan.specs.Plans.{IsGuestPlan, AreGuestPlans}
 use Rattle.domain_plan.specs.PrivateGiving.{IsReady}
 use Rattle.frame_alloc.specs.Frames.{AreFrames}
 use Rattle.domain_plan.proofs.HeadLemmas.{heaps_total, no_own}

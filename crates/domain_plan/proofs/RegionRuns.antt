@@ -19,11 +19,11 @@ use Rattle.frame_alloc.specs.Frames.{is_within}
 use Rattle.domain_bindings.specs.declared.host.Host.{Host}
 use Rattle.frame_ranges.specs.Ranges.{holds, touched}
 use Rattle.frame_ranges.proofs.CommonFrames.{true_or_false, not_both, and_tells, within_bounds, holds_one}
-use Rattle.domain_plan.specs.Entries.{Entry}
-use Rattle.domain_plan.specs.Taken.{Passed, item_of, what_of, region_claims, passing, all_passed}
+use Rattle.item_checks.specs.Entries.{Entry}
+use Rattle.item_checks.specs.Taken.{Passed, item_of, what_of, region_claims, passing, all_passed}
 use Rattle.domain_plan.specs.Draws.{free_frames}
-use Rattle.domain_plan.specs.Reasons.{are_one_region, is_same_host, have_one_base, unlike, shm_differs}
-use Rattle.domain_plan.specs.Refusals.{why, first_refused, first_there, cross_reasons, reasons_by}
+use Rattle.item_checks.specs.Reasons.{are_one_region, is_same_host, have_one_base, unlike, shm_differs}
+use Rattle.item_checks.specs.Refusals.{why, first_refused, first_there, cross_reasons, reasons_by}
 use Rattle.domain_plan.specs.Regions.{Request, request_in, requests, host_in, placed_what}
 use Rattle.domain_plan.specs.declared.runs.Run.{Run}
 use Rattle.domain_plan.proofs.ClearLemmas.{no_reason, clear_first}

@@ -10,16 +10,16 @@ use Rattle.described.specs.declared.item.What.{What}
 use Rattle.described.specs.declared.item.What.TheVariants as whats
 use Rattle.described.specs.declared.why.Why.TheVariants.{NoRam}
 use Rattle.frame_alloc.specs.Frames.{without, lowest_run}
-use Rattle.domain_plan.specs.declared.state.Region.{Region}
-use Rattle.domain_plan.specs.Taken.{Passed, item_of, what_of}
-use Rattle.domain_plan.specs.Reasons.{are_one_region}
-use Rattle.domain_plan.specs.Refusals.{Refusal}
+use Rattle.item_checks.specs.declared.state.Region.{Region}
+use Rattle.item_checks.specs.Taken.{Passed, item_of, what_of}
+use Rattle.item_checks.specs.Reasons.{are_one_region}
+use Rattle.item_checks.specs.Refusals.{Refusal}
 use Rattle.domain_plan.specs.Draws.{free_frames}
 use Rattle.domain_plan.specs.Regions.{Request, Runs, request_in, requests, region_item, and_run, runs_drawn}
 use Rattle.domain_plan.specs.PrivateRuns.{has_id, is_requested, request_of, asked, requests_in}
-use Rattle.domain_plan.specs.PrivateStanding.{region_in, regions_from}
+use Rattle.item_checks.specs.Standing.{region_in, regions_from}
 use Rattle.domain_plan.specs.declared.runs.Run.{Run}
-use Rattle.domain_plan.proofs.RegionLemmas.{regions_from-more}
+use Rattle.item_checks.proofs.RegionLemmas.{regions_from-more}
 
 -- what regions before drew, and then the others
 abbrev pub after_runs : List Run → Result Runs Refusal → Result Runs Refusal

@@ -6,8 +6,8 @@ use Rattle.std.specs.List.{list_any}
 use Rattle.std.proofs.lemmas.List.Folds.{list_any-append}
 use Rattle.described.specs.declared.item.What.{What}
 use Rattle.described.specs.declared.item.What.TheVariants as whats
-use Rattle.domain_plan.specs.Taken.{Passed, what_of, belongs_to}
-use Rattle.domain_plan.specs.Reasons.{is_irq}
+use Rattle.item_checks.specs.Taken.{Passed, what_of, belongs_to}
+use Rattle.item_checks.specs.Reasons.{is_irq}
 use Rattle.domain_plan.specs.Plans.{said_by}
 use Rattle.domain_plan.specs.PrivateGiving.{irq_of}
 use Rattle.texts.specs.Consecutive.{numbers}

@@ -1,5 +1,5 @@
--- That guests are apart: a law over the definitions.
-use Rattle.std.specs.Prelude.{◌≡◌, ℕ, ◌&&◌, Bool, false, IsTrue, List, [], ◌∷◌, Some, Ok, slice_get}
+-- That guests are apart: a law over the definitions, and what a plan says of it.
+use Rattle.std.specs.Prelude.{◌≡◌, ◌≢◌, ℕ, zero, suc, ◌&&◌, Bool, false, IsTrue, List, [], ◌∷◌, Option, Some, None, Ok, slice_get}
 use Rattle.std.specs.List.{list_any}
 use Rattle.texts.specs.Consecutive.{is_in}
 use Rattle.described.specs.Maps.{Target, target_of}
@@ -7,15 +7,16 @@ use Rattle.texts.specs.declared.ranges.FrameRange.{FrameRange}
 use Rattle.described.specs.declared.map_range.MapRange.{MapRange}
 use Rattle.described.specs.declared.map_range.Kind.TheVariants.{Shared}
 use Rattle.frame_alloc.specs.Frames.{AreFrames}
-use Rattle.domain_plan.specs.declared.guests.Guest.{Guest}
+use Rattle.item_checks.specs.declared.guests.Guest.{Guest}
 use Rattle.domain_bindings.specs.declared.host.Host.{Host}
 use Rattle.described.specs.declared.loaded.Loaded.{Loaded}
 use Rattle.frame_ranges.specs.Ranges.{holds}
-use Rattle.domain_plan.specs.Taken.{Passed, what_of, belongs_to}
-use Rattle.domain_plan.specs.Reasons.{are_one_region}
+use Rattle.item_checks.specs.Taken.{Passed, what_of, belongs_to}
+use Rattle.item_checks.specs.Reasons.{are_one_region}
 use Rattle.domain_plan.specs.Draws.{Heaps}
 use Rattle.domain_plan.specs.GuestMaps.{guest_ranges}
 use Rattle.domain_plan.specs.Plans.{Draws, placed_of, outcome}
+use Rattle.domain_plan.specs.declared.planned.GuestPlan.{GuestPlan}
 
 -- the range maps the page to this target
 abbrev pub IsMappedBy : MapRange → ℕ → Target → Type 0
@@ -51,3 +52,16 @@ pub record AreApart (passed : List Passed) (heaps : Heaps) : Type 0 where
 -- where no item is refused, guests are apart
 abbrev pub GuestsAreApart : Host → List Loaded → List Guest → Type 0
 GuestsAreApart host loads guests = (draws : Draws) → outcome host loads guests ≡ Ok draws → AreApart (placed_of draws.runs host loads guests) draws.heaps
+
+-- where the n-th guest's map sends a page; past the last, nowhere
+abbrev pub target_in : List GuestPlan → ℕ → ℕ → Option Target
+target_in [] n page = None
+target_in (guest ∷ guests) zero page = target_of guest.ranges page
+target_in (guest ∷ guests) (suc n) page = target_in guests n page
+
+-- Maps are apart, and from the frames that are left: a frame of two guests is shared in both and common to them, and no frame that is left is mapped.
+pub record ArePlannedApart (common : ℕ → ℕ → ℕ → Bool) (guests : List GuestPlan) (free : List ℕ) : Type 0 where
+  pub ascending : AreFrames free
+  pub meet : (one other page next : ℕ) (a b : Target) → one ≢ other → target_in guests one page ≡ Some a → target_in guests other next ≡ Some b → a.frame ≡ b.frame
+      → (a.kind ≡ Shared) × (b.kind ≡ Shared) × IsTrue (common one other a.frame)
+  pub unmapped : (n page : ℕ) (target : Target) → target_in guests n page ≡ Some target → is_in free target.frame ≡ false

@@ -8,11 +8,11 @@ use Rattle.described.specs.Sound.{SoundUnless}
 use Rattle.frame_alloc.specs.Frames.{AreFrameRanges}
 use Rattle.domain_bindings.specs.HostDevices.{HasUsableDevices}
 use Rattle.domain_bindings.specs.declared.domain.Domain.{Domain}
-use Rattle.domain_plan.specs.declared.guests.Guest.{Guest}
+use Rattle.item_checks.specs.declared.guests.Guest.{Guest}
 use Rattle.domain_bindings.specs.declared.host.Host.{Host}
 use Rattle.described.specs.declared.loaded.Loaded.{Loaded}
-use Rattle.domain_plan.specs.Entries.{Entry, joined, items_of}
-use Rattle.domain_plan.specs.Taken.{static_pages}
+use Rattle.item_checks.specs.Entries.{Entry, joined, items_of}
+use Rattle.item_checks.specs.Taken.{static_pages}
 
 -- the items are sound up to the first one with a reason of its own
 abbrev pub AreSound : List Entry → Type 0

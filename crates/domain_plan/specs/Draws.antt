@@ -6,10 +6,10 @@ use Rattle.described.specs.declared.item.Item.{Item}
 use Rattle.described.specs.declared.item.Part.TheVariants as parts
 use Rattle.described.specs.declared.why.Why.TheVariants.{NoRam}
 use Rattle.frame_alloc.specs.Frames.{frames_in, without, lowest_frame, lowest_chunk}
-use Rattle.domain_plan.specs.declared.guests.Guest.{Guest}
+use Rattle.item_checks.specs.declared.guests.Guest.{Guest}
 use Rattle.frame_ranges.specs.Ranges.{holds}
-use Rattle.domain_plan.specs.Taken.{Passed}
-use Rattle.domain_plan.specs.Refusals.{Refusal}
+use Rattle.item_checks.specs.Taken.{Passed}
+use Rattle.item_checks.specs.Refusals.{Refusal}
 
 -- an item claims the frame
 abbrev pub is_claimed : List Passed → ℕ → Bool

@@ -8,9 +8,9 @@ use Rattle.described.specs.declared.map_range.Kind.{Kind}
 use Rattle.described.specs.declared.map_range.Kind.TheVariants.{Ram, Device, Shared}
 use Rattle.described.specs.declared.map_range.MapRange.{MapRange}
 use Rattle.domain_bindings.specs.declared.host.Host.{Host}
-use Rattle.domain_plan.specs.declared.guests.Guest.{Guest}
+use Rattle.item_checks.specs.declared.guests.Guest.{Guest}
 use Rattle.described.specs.declared.loaded.Loaded.{Loaded}
-use Rattle.domain_plan.specs.Taken.{says_direct, static_pages}
+use Rattle.item_checks.specs.Taken.{says_direct, static_pages}
 use Rattle.domain_plan.specs.GuestMaps.{guest_ranges}
 use Rattle.domain_plan.specs.Arguments.{whats_of}
 use Rattle.domain_plan.specs.Plans.{Draws, placed_of, memories_of, outcome}

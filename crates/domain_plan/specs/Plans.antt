@@ -6,25 +6,21 @@ use Rattle.described.specs.Maps.{target_of, AreMapRanges, AreMerged}
 use Rattle.texts.specs.declared.ranges.FrameRange.{FrameRange}
 use Rattle.described.specs.declared.item.What.{What}
 use Rattle.described.specs.declared.item.What.TheVariants as whats
-use Rattle.domain_plan.specs.declared.guests.Guest.{Guest}
+use Rattle.item_checks.specs.declared.guests.Guest.{Guest}
 use Rattle.domain_bindings.specs.declared.host.Host.{Host}
 use Rattle.described.specs.declared.loaded.Loaded.{Loaded}
-use Rattle.domain_plan.specs.declared.guests.PartialState.{PartialState}
-use Rattle.domain_plan.specs.declared.guests.PartialState.TheVariants as states
+use Rattle.item_checks.specs.declared.guests.PartialState.{PartialState}
+use Rattle.item_checks.specs.declared.guests.PartialState.TheVariants as states
 use Rattle.domain_plan.specs.declared.planned.GuestPlan.{GuestPlan}
 use Rattle.frame_ranges.specs.Ranges.{touched}
-use Rattle.domain_plan.specs.Entries.{joined}
-use Rattle.domain_plan.specs.Taken.{Passed, what_of, belongs_to, is_direct, pages_before, bank_pages, all_passed}
-use Rattle.domain_plan.specs.Reasons.{is_irq, layout_at}
-use Rattle.domain_plan.specs.Refusals.{Refusal, first_refused}
+use Rattle.item_checks.specs.Entries.{joined}
+use Rattle.item_checks.specs.Taken.{Passed, what_of, belongs_to, is_direct, pages_before, bank_pages, all_passed, passed_of}
+use Rattle.item_checks.specs.Reasons.{is_irq, layout_at}
+use Rattle.item_checks.specs.Refusals.{Refusal, first_refused}
 use Rattle.domain_plan.specs.Draws.{Heaps, free_frames, heaps}
 use Rattle.domain_plan.specs.declared.runs.Run.{Run}
 use Rattle.domain_plan.specs.Regions.{Runs, requests, runs_drawn, placed}
 use Rattle.domain_plan.specs.GuestMaps.{guest_ranges}
-
--- all items with what they take
-abbrev pub passed_of : Host → List Loaded → List Guest → List Passed
-passed_of host loads guests = all_passed [] (joined host loads guests)
 
 -- what was drawn: the runs of regions, and the memory of guests with what is left
 pub record Draws : Type 0 where

@@ -1,5 +1,5 @@
 -- For proofs and private contracts alone: what the code that gathers a guest's ranges asks and gives.
-use Rattle.described.specs.Maps.{target_of, holds_page}
+use Rattle.described.specs.Maps.{target_of, holds_page, AreMapRanges, AreMerged}
 use Rattle.std.specs.Prelude.{◌≡◌, true, None, ℕ, ◌+◌, ◌/◌, ◌^◌, ◌<◌, ◌≤◌, List, [], ◌∷◌}
 use Rattle.texts.specs.declared.ranges.FrameRange.{FrameRange}
 use Rattle.described.specs.declared.map_range.Kind.TheVariants.{Ram, Device}
@@ -7,11 +7,6 @@ use Rattle.described.specs.declared.map_range.MapRange.{MapRange}
 use Rattle.described.specs.declared.item.What.{What}
 use Rattle.described.specs.declared.item.What.TheVariants as whats
 use Rattle.domain_plan.specs.GuestMaps.{onto, region_maps}
-
--- how many pages several ranges have
-abbrev pub total : List FrameRange → ℕ
-total [] = 0
-total (range ∷ ranges) = range.count + total ranges
 
 -- frames that end at or below frame 2^28, where there are any
 abbrev pub AreLowFrames : List FrameRange → Type 0
@@ -36,3 +31,9 @@ AreApart (range ∷ ranges) = ((page : ℕ) → holds_page range page ≡ true �
 abbrev pub AreLowRanges : List MapRange → Type 0
 AreLowRanges [] = Unit {0}
 AreLowRanges (range ∷ ranges) = (0 < range.count → (range.page + range.count ≤ 2 ^ 28) × (range.first + range.count ≤ 2 ^ 28)) × AreLowRanges ranges
+
+-- the ranges are in order, apart and merged, and send each page where these do
+pub record IsMapOf (ranges joined : List MapRange) : Type 0 where
+  pub sorted : AreMapRanges joined
+  pub merged : AreMerged joined
+  pub mapped : (page : ℕ) → target_of joined page ≡ target_of ranges page

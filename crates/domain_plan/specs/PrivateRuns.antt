@@ -1,7 +1,7 @@
 -- For proofs and private contracts alone: the requests of the regions that the state keeps.
 use Rattle.std.specs.Prelude.{ℕ, ◌/◌, ◌&&◌, not, bytes_eq, is_none, Bool, if◌then◌else◌, List, [], ◌∷◌, ◌++◌}
 use Rattle.std.specs.List.{list_any}
-use Rattle.domain_plan.specs.declared.state.Region.{Region}
+use Rattle.item_checks.specs.declared.state.Region.{Region}
 use Rattle.domain_plan.specs.declared.runs.Run.{Run}
 use Rattle.domain_plan.specs.Regions.{Request}
 

@@ -8,10 +8,10 @@ use Rattle.described.specs.declared.item.What.{What}
 use Rattle.described.specs.declared.item.What.TheVariants as whats
 use Rattle.described.specs.declared.why.Why.TheVariants.{NoRam}
 use Rattle.frame_alloc.specs.Frames.{lowest_run, without}
-use Rattle.domain_plan.specs.Entries.{Entry}
-use Rattle.domain_plan.specs.Taken.{Passed, item_of, what_of}
-use Rattle.domain_plan.specs.Reasons.{are_one_region}
-use Rattle.domain_plan.specs.Refusals.{Refusal}
+use Rattle.item_checks.specs.Entries.{Entry}
+use Rattle.item_checks.specs.Taken.{Passed, item_of, what_of}
+use Rattle.item_checks.specs.Reasons.{are_one_region}
+use Rattle.item_checks.specs.Refusals.{Refusal}
 use Rattle.domain_plan.specs.declared.runs.Run.{Run}
 
 -- a region that is to be drawn: the path of the item that describes it first, its id, and how many frames it has

@@ -2,16 +2,14 @@
 ghost use Rattle.std.specs.Prelude.{◌≡◌, ℕ, List, None, Some, map, length, Ok, Err, IfOk, IfErr, IfSome, All, ◌+◌, ◌^◌, ◌≤◌};
 ghost use Rattle.described.specs.declared.why.Why.TheVariants as whys;
 ghost use Rattle.frame_alloc.specs.Frames.{lowest_chunk, lowest_frame, AreFrameRanges};
-ghost use Rattle.domain_plan.specs.Taken.{Passed};
-ghost use Rattle.domain_plan.specs.PrivateStanding.{taken_from, claims_taken};
+ghost use Rattle.item_checks.specs.Taken.{Passed};
+ghost use Rattle.item_checks.specs.Standing.{taken_from, claims_taken};
 ghost use Rattle.domain_plan.specs.Draws.{Drawn, Heaps, groups_drawn, drawn, heaps, free_frames};
 
-use crate::guests::Guest;
-use crate::planned::PlanFault;
-use crate::state::Taken;
 use described::{Item, Part, Why};
 use frame_alloc::{FramePool, PoolFault};
 use frame_ranges::frames_left;
+use item_checks::{Guest, PlanFault, Taken};
 use std::alloc::{AllocError, Global};
 use texts::{Bytes, FrameRange, List};
 

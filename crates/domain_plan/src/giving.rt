@@ -1,36 +1,37 @@
 // What the items of a guest give it.
-ghost use Rattle.std.specs.Prelude.{◌≡◌, ℕ, ◌+◌, ◌^◌, ◌≤◌, ◌<◌, List, [], ◌∷◌, ◌++◌, map, All, Option, None, Some, unwrap_or, IfOk, OnOk};
-ghost use Rattle.described.specs.Sound.{IsSound};
-ghost use Rattle.domain_plan.specs.Entries.{of_guest, is_read, items_of};
-ghost use Rattle.domain_plan.specs.Taken.{Passed, passing, all_passed};
+ghost use Rattle.std.specs.Prelude.{◌≡◌, ℕ, ◌+◌, ◌^◌, ◌≤◌, ◌<◌, List, [], ◌∷◌, ◌++◌, map, true, Option, None, Some, unwrap_or, IfOk, OnOk};
+ghost use Rattle.item_checks.specs.Entries.{of_guest, is_read, items_of};
+ghost use Rattle.item_checks.specs.Taken.{Passed, passing, all_passed, total, has_frames};
 ghost use Rattle.domain_plan.specs.GuestMaps.{onto, laid};
 ghost use Rattle.domain_plan.specs.Regions.{placed_item};
 ghost use Rattle.domain_plan.specs.Plans.{static_memory, region_of, port_of};
-ghost use Rattle.domain_plan.specs.PrivateStanding.{Stands, entry_of};
-ghost use Rattle.domain_plan.specs.PrivateGiving.{irq_of, Gives};
-ghost use Rattle.domain_plan.specs.PrivateLaying.{total, AreLowFrames, maps_by};
+ghost use Rattle.item_checks.specs.Standing.{Stands, entry_of};
+ghost use Rattle.domain_plan.specs.PrivateGiving.{irq_of, HasSaid, SaysToo, Gives};
+ghost use Rattle.domain_plan.specs.PrivateLaying.{AreLowFrames, maps_by};
 
-use crate::checking::{is_read, partial_items};
-use crate::guests::Guest;
-use crate::passing::takes_of;
 use crate::runs::{Run, placed_item};
-use crate::state::{Owner, State};
-use crate::takes::BANK_SIZE;
 use described::{Described, Kind, MapRange, What};
 use frame_ranges::{touched, touched_from};
+use item_checks::{BANK_SIZE, Guest, Owner, State, is_read, partial_items, takes_of};
 use std::alloc::{AllocError, Global};
 use std::cmp::min;
 use texts::{Bytes, FrameRange, List};
+
+/// What the items of a guest say of it: the pages of its static ranges, its interrupts, its shared regions and its ports.
+#[derive(Drop)]
+pub(crate) struct Said {
+    pub(crate) statics: List<(u64, u64)>,
+    pub(crate) irqs: Vec<u32>,
+    pub(crate) shared: List<(Bytes, u64, u64)>,
+    pub(crate) ports: List<(u32, u64, u32)>,
+}
 
 /// What the items of a guest that were passed give it.
 #[derive(Drop)]
 pub(crate) struct Given {
     pub(crate) state: State,
     pub(crate) ranges: Vec<MapRange>,
-    pub(crate) statics: List<(u64, u64)>,
-    pub(crate) irqs: Vec<u32>,
-    pub(crate) shared: List<(Bytes, u64, u64)>,
-    pub(crate) ports: List<(u32, u64, u32)>,
+    pub(crate) said: Said,
 }
 
 /// Adds the pages of a static range.
@@ -102,6 +103,30 @@ fn push_port(ports: &mut List<(u32, u64, u32)>, what: &What) -> Result<(), Alloc
     }
 }
 
+impl Said {
+    /// Nothing is said. Takes no memory.
+    fn new(alloc: Global) -> Said
+        ensures { (number : ℕ) → HasSaid number [] result }
+    {
+        Said {
+            statics: List::new(alloc),
+            irqs: Vec::new(alloc),
+            shared: List::new(alloc),
+            ports: List::new(alloc),
+        }
+    }
+
+    /// Adds what an item says.
+    fn add(&mut self, alloc: Global, what: &What) -> Result<(), AllocError>
+        ensures { OnOk result (SaysToo what.now self.old self.new) }
+    {
+        push_static(&mut self.statics, what)?;
+        push_irq(&mut self.irqs, what)?;
+        push_region(alloc, &mut self.shared, what)?;
+        push_port(&mut self.ports, what)
+    }
+}
+
 /// Adds ranges of pages that go to consecutive frames.
 fn push_onto(
     ranges: &mut Vec<MapRange>,
@@ -131,7 +156,7 @@ fn push_maps(
     what: &What,
     pages: &[FrameRange],
 ) -> Result<(), AllocError>
-    requires { total pages.now ≤ 2 ^ 28 }
+    requires { has_frames what.now ≡ true → total pages.now ≤ 2 ^ 28 }
     ensures { OnOk result (ranges.new.items ≡ ranges.old.items ++ maps_by what.now pages.now) }
 {
     match what {
@@ -188,18 +213,11 @@ fn give_item(
     owner: Owner,
     described: &Described,
 ) -> Result<(), AllocError>
-    requires small { given.old.state.static_pages ≤ 2 ^ 28 }
-    requires sound { IsSound described.now.what }
-    requires stands { (before : List Passed) × Stands owner.guest before given.old.state }
-    ensures small { OnOk result (given.new.state.static_pages ≤ 2 ^ 28) }
-    ensures given { OnOk result ((number : ℕ) → (drawn : List FrameRange) → (before : List Passed) → owner.guest ≡ Some number → Gives number drawn before given.old → Gives number drawn (before ++ passing before (entry_of owner described.now) ∷ []) given.new) }
+    ensures { OnOk result ((number : ℕ) → (drawn : List FrameRange) → (before : List Passed) → owner.guest ≡ Some number → Gives number drawn before given.old → Gives number drawn (before ++ passing before (entry_of owner described.now) ∷ []) given.new) }
 {
     let takes = takes_of(&given.state, alloc, described)?;
     push_maps(&mut given.ranges, &described.what, takes.pages.as_slice())?;
-    push_static(&mut given.statics, &described.what)?;
-    push_irq(&mut given.irqs, &described.what)?;
-    push_region(alloc, &mut given.shared, &described.what)?;
-    push_port(&mut given.ports, &described.what)?;
+    given.said.add(alloc, &described.what)?;
     given.state.add(alloc, owner, described, &takes)?;
     Ok(())
 }
@@ -222,11 +240,7 @@ fn give_placed(
     runs: &[Run],
     described: &Described,
 ) -> Result<(), AllocError>
-    requires small { given.old.state.static_pages ≤ 2 ^ 28 }
-    requires sound { IsSound (placed_item runs.now described.now).what }
-    requires stands { (before : List Passed) × Stands owner.guest before given.old.state }
-    ensures small { OnOk result (given.new.state.static_pages ≤ 2 ^ 28) }
-    ensures given { OnOk result ((number : ℕ) → (drawn : List FrameRange) → (before : List Passed) → owner.guest ≡ Some number → Gives number drawn before given.old → Gives number drawn (before ++ passing before (entry_of owner (placed_item runs.now described.now)) ∷ []) given.new) }
+    ensures { OnOk result ((number : ℕ) → (drawn : List FrameRange) → (before : List Passed) → owner.guest ≡ Some number → Gives number drawn before given.old → Gives number drawn (before ++ passing before (entry_of owner (placed_item runs.now described.now)) ∷ []) given.new) }
 {
     let placed = placed_item(alloc, runs, described)?;
     let item = placed_or(&placed, described);
@@ -242,16 +256,48 @@ fn give_items(
     runs: &[Run],
     items: &[Described],
 ) -> Result<(), AllocError>
-    requires small { given.old.state.static_pages ≤ 2 ^ 28 }
-    requires sound { All (λ described. IsSound (placed_item runs.now described).what) items.now }
-    requires stands { (number : ℕ) × (drawn : List FrameRange) × (before : List Passed) × (owner.guest ≡ Some number) × Gives number drawn before given.old }
-    ensures small { OnOk result (given.new.state.static_pages ≤ 2 ^ 28) }
-    ensures given { OnOk result ((number : ℕ) → (drawn : List FrameRange) → (before : List Passed) → owner.guest ≡ Some number → Gives number drawn before given.old → Gives number drawn (all_passed before (map (entry_of owner) (map (placed_item runs.now) items.now))) given.new) }
+    ensures { OnOk result ((number : ℕ) → (drawn : List FrameRange) → (before : List Passed) → owner.guest ≡ Some number → Gives number drawn before given.old → Gives number drawn (all_passed before (map (entry_of owner) (map (placed_item runs.now) items.now))) given.new) }
 {
     for described in items {
         give_placed(given, alloc, owner, runs, described)?;
     }
     Ok(())
+}
+
+/// Passes the items of a guest in their order, its regions at their host addresses.
+fn give_guest(
+    given: &mut Given,
+    alloc: Global,
+    number: u64,
+    guest: &Guest,
+    runs: &[Run],
+) -> Result<(), AllocError>
+    ensures { OnOk result ((drawn : List FrameRange) → (before : List Passed) → Gives number drawn before given.old → Gives number drawn (all_passed before (of_guest number (is_read guest.now.partial) (map (placed_item runs.now) (items_of guest.now)))) given.new) }
+{
+    let owner = Owner {
+        guest: Some(number),
+        partial_read: is_read(&guest.partial),
+    };
+    give_items(given, alloc, owner, runs, guest.domain.items.as_slice())?;
+    give_items(given, alloc, owner, runs, partial_items(&guest.partial))?;
+    give_items(given, alloc, owner, runs, guest.shared.as_slice())?;
+    give_items(given, alloc, owner, runs, guest.ports.as_slice())?;
+    Ok(())
+}
+
+impl Given {
+    /// Nothing was passed. Takes no memory.
+    fn new(alloc: Global) -> Given
+        ensures state { Stands None [] result.state }
+        ensures ranges { result.ranges.items ≡ [] }
+        ensures said { (number : ℕ) → HasSaid number [] result.said }
+    {
+        Given {
+            state: State::new(alloc),
+            ranges: Vec::new(alloc),
+            said: Said::new(alloc),
+        }
+    }
 }
 
 /// What the items of a guest, its regions at their host addresses, and the frames that it drew give it.
@@ -264,38 +310,10 @@ pub(crate) fn gather(
 ) -> Result<Given, AllocError>
     requires few { total drawn.now ≤ 2 ^ 22 }
     requires low { AreLowFrames drawn.now }
-    requires sound { All (λ described. IsSound (placed_item runs.now described).what) (items_of guest.now) }
-    ensures small { IfOk result (λ given. given.state.static_pages ≤ 2 ^ 28) }
-    ensures gathered { IfOk result (λ given. Gives number drawn.now (all_passed [] (of_guest number (is_read guest.now.partial) (map (placed_item runs.now) (items_of guest.now)))) given) }
+    ensures { IfOk result (λ given. Gives number drawn.now (all_passed [] (of_guest number (is_read guest.now.partial) (map (placed_item runs.now) (items_of guest.now)))) given) }
 {
-    let mut given = Given {
-        state: State::new(alloc),
-        ranges: Vec::new(alloc),
-        statics: List::new(alloc),
-        irqs: Vec::new(alloc),
-        shared: List::new(alloc),
-        ports: List::new(alloc),
-    };
+    let mut given = Given::new(alloc);
     lay(&mut given.ranges, drawn)?;
-    let owner = Owner {
-        guest: Some(number),
-        partial_read: is_read(&guest.partial),
-    };
-    give_items(
-        &mut given,
-        alloc,
-        owner,
-        runs,
-        guest.domain.items.as_slice(),
-    )?;
-    give_items(
-        &mut given,
-        alloc,
-        owner,
-        runs,
-        partial_items(&guest.partial),
-    )?;
-    give_items(&mut given, alloc, owner, runs, guest.shared.as_slice())?;
-    give_items(&mut given, alloc, owner, runs, guest.ports.as_slice())?;
+    give_guest(&mut given, alloc, number, guest, runs)?;
     Ok(given)
 }

@@ -4,22 +4,21 @@ ghost use Rattle.std.specs.List.{list_any};
 ghost use Rattle.texts.specs.Consecutive.{numbers};
 ghost use Rattle.described.specs.Maps.{AreMapRanges};
 ghost use Rattle.described.specs.Sound.{IsSound};
-ghost use Rattle.domain_plan.specs.Entries.{of_guest, is_read, items_of};
-ghost use Rattle.domain_plan.specs.Taken.{all_passed};
+ghost use Rattle.item_checks.specs.Entries.{of_guest, is_read, items_of};
+ghost use Rattle.item_checks.specs.Taken.{all_passed, total};
 ghost use Rattle.domain_plan.specs.GuestMaps.{guest_ranges};
 ghost use Rattle.domain_plan.specs.MapOrder.{in_order};
-ghost use Rattle.domain_plan.specs.PrivateLaying.{total, AreLowFrames};
+ghost use Rattle.domain_plan.specs.PrivateLaying.{AreLowFrames};
 ghost use Rattle.domain_plan.specs.Plans.{banks_filled, gic_of, IsGuestPlan};
 ghost use Rattle.domain_plan.specs.Regions.{placed_item};
 ghost use Rattle.domain_plan.specs.PrivateGiving.{IsReady};
 
-use crate::giving::{Given, gather};
-use crate::guests::{Guest, PartialState};
-use crate::ordering::{in_order, joined_ranges};
+use crate::giving::{Given, Said, gather};
+use crate::ordering::in_one_map;
 use crate::planned::GuestPlan;
 use crate::runs::Run;
-use crate::takes::BANK_SIZE;
-use domain_bindings::Host;
+use domain_bindings::{Domain, Host};
+use item_checks::{BANK_SIZE, Guest, PartialState};
 use std::alloc::{AllocError, Global};
 use std::cmp::min;
 use texts::{Bytes, FrameRange, List};
@@ -86,6 +85,23 @@ fn copy_option(alloc: Global, bytes: &Option<Bytes>) -> Result<Option<Bytes>, Al
     }
 }
 
+/// The path of a guest's node and the kernel's command line.
+#[derive(Drop)]
+struct Names {
+    path: Bytes,
+    bootargs: Option<Bytes>,
+}
+
+/// Copies of the names that a guest's node gives.
+fn names_of(alloc: Global, domain: &Domain) -> Result<Names, AllocError>
+    ensures path { IfOk result (λ names. names.path ≡ domain.now.path) }
+    ensures bootargs { IfOk result (λ names. names.bootargs ≡ domain.now.bootargs) }
+{
+    let path = copy_bytes(alloc, &domain.path)?;
+    let bootargs = copy_option(alloc, &domain.bootargs)?;
+    Ok(Names { path, bootargs })
+}
+
 /// The phandle of a guest's interrupt controller.
 fn gic_of(partial: &PartialState) -> u32
     ensures { result ≡ gic_of partial.now }
@@ -127,26 +143,29 @@ pub(crate) fn guest_plan(
     let Given {
         state,
         ranges,
+        said,
+    } = gather(alloc, number, guest, runs, drawn)?;
+    let ranges = in_one_map(alloc, ranges.as_slice())?;
+    let pages = guest.domain.pages + state.static_pages();
+    let Said {
         statics,
         irqs,
         shared,
         ports,
-    } = gather(alloc, number, guest, runs, drawn)?;
-    let sorted = in_order(alloc, ranges.as_slice())?;
-    let ranges = joined_ranges(alloc, sorted.as_slice())?;
-    let pages = guest.domain.pages + state.static_pages;
-    let memories = memories_of(alloc, state.direct, statics, pages)?;
+    } = said;
+    let memories = memories_of(alloc, state.is_direct(), statics, pages)?;
     let spis = spis_of(alloc, irqs.as_slice())?;
+    let named = names_of(alloc, &guest.domain)?;
     Ok(GuestPlan {
         number: guest.domain.number,
-        path: copy_bytes(alloc, &guest.domain.path)?,
+        path: named.path,
         cpus: guest.domain.cpus,
         console: guest.domain.console,
         gic: gic_of(&guest.partial),
         layout: state.layout(host),
-        bootargs: copy_option(alloc, &guest.domain.bootargs)?,
+        bootargs: named.bootargs,
         memories,
-        ranges: List::from(ranges),
+        ranges,
         spis,
         shared,
         ports,

@@ -3,9 +3,9 @@ ghost use Rattle.domain_plan.specs.Arguments.{AreRead};
 ghost use Rattle.domain_plan.specs.Apart.{GuestsAreApart};
 ghost use Rattle.domain_plan.specs.Memories.{MemoryIsMapped};
 
-use crate::guests::Guest;
 use described::Loaded;
 use domain_bindings::Host;
+use item_checks::Guest;
 use texts::List;
 
 /// Where no item of a description is refused, a guest's pages are each mapped once; a frame of the maps of two guests is

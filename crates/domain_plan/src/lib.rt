@@ -1,27 +1,20 @@
-//! The first described item that is refused, or every guest's map and the frames that are left.
+//! The plan of a host's device tree: every guest's map and the frames that are left, or the first item that is refused
+//! (Xen, docs/misc/arm/device-tree/booting.txt, dom0less).
 #![tactic(auto)]
 
-mod checking;
 mod draws;
-mod earliest;
 mod giving;
 mod guest_plan;
-mod guests;
-mod irqs;
 pub mod laws;
-mod layouts;
 mod ordering;
-mod passing;
 mod planned;
 mod planning;
-mod reasons;
-mod regions;
 mod runs;
-mod state;
-mod takes;
-mod takings;
+mod tree_guests;
+mod tree_plans;
 
-pub use guests::{Guest, PartialState};
-pub use planned::{GuestPlan, Plan, PlanFault};
+pub use item_checks::{Guest, PartialState, PlanFault};
+pub use planned::{GuestPlan, Plan};
 pub use planning::plan;
 pub use runs::Run;
+pub use tree_plans::plan_tree;

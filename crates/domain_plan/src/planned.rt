@@ -1,5 +1,5 @@
 // What a plan says.
-use described::{Item, Layout, MapRange, Why};
+use described::{Layout, MapRange};
 use frame_alloc::FramePool;
 use texts::{Bytes, List};
 
@@ -40,13 +40,4 @@ pub struct Plan {
     pub guests: List<GuestPlan>,
     /// The frames of the host's memory that no item claims and no guest drew.
     pub pool: FramePool,
-}
-
-/// Why there is no plan.
-#[derive(Debug, Drop)]
-pub enum PlanFault {
-    /// The first item that has a reason against it, with its first reason.
-    Refused(Item, Why),
-    /// There is no memory for the plan.
-    Memory,
 }

@@ -2,21 +2,20 @@
 ghost use Rattle.std.specs.Prelude.{◌≡◌, ◌+◌, ◌^◌, ◌≤◌, ℕ, All, List, [], None, map, Ok, Err, IfOk, IfErr};
 ghost use Rattle.frame_alloc.specs.Frames.{AreFrames};
 ghost use Rattle.domain_plan.specs.Arguments.{AreRead};
-ghost use Rattle.domain_plan.specs.Taken.{Passed};
-ghost use Rattle.domain_plan.specs.Entries.{joined};
-ghost use Rattle.domain_plan.specs.Layouts.{IsLayout};
-ghost use Rattle.domain_plan.specs.Refusals.{first_refused};
+ghost use Rattle.item_checks.specs.Taken.{Passed, passed_of};
+ghost use Rattle.item_checks.specs.Entries.{joined};
+ghost use Rattle.item_checks.specs.Layouts.{IsLayout};
+ghost use Rattle.item_checks.specs.Refusals.{first_refused};
 ghost use Rattle.domain_plan.specs.Draws.{free_frames};
-ghost use Rattle.domain_plan.specs.Plans.{Draws, passed_of, placed_of, draws, outcome, AreGuestPlans};
+ghost use Rattle.domain_plan.specs.Plans.{Draws, placed_of, draws, outcome, AreGuestPlans};
 
-use crate::checking::check_all;
 use crate::draws::{draw_for_guests, free_pool};
 use crate::guest_plan::guest_plan;
-use crate::guests::Guest;
-use crate::planned::{GuestPlan, Plan, PlanFault};
+use crate::planned::{GuestPlan, Plan};
 use crate::runs::{Run, draw_for_regions};
 use described::Loaded;
 use domain_bindings::Host;
+use item_checks::{Guest, PlanFault, check_all};
 use std::alloc::{AllocError, Global};
 use texts::{FrameRange, List};
 
@@ -64,8 +63,8 @@ pub fn plan(
     ensures refused { IfErr result (λ fault. (item : _) → (why : _) → fault ≡ PlanFault.Refused item why → outcome host.now loads.now guests.now ≡ Err (item, why)) }
 {
     let state = check_all(alloc, host, loads, guests)?;
-    let mut pool = free_pool(alloc, &host.ram, state.claims.as_slice())?;
-    let runs = draw_for_regions(alloc, &mut pool, state.regions.as_slice())?;
+    let mut pool = free_pool(alloc, &host.ram, state.claims())?;
+    let runs = draw_for_regions(alloc, &mut pool, state.regions())?;
     let drawn = draw_for_guests(alloc, &mut pool, guests.as_slice())?;
     let guests = guest_plans(alloc, host, loads, guests, &runs, &drawn)?;
     let _ = pool.free_frames();

@@ -5,10 +5,9 @@ ghost use Rattle.frame_alloc.specs.Frames.{lowest_run, without};
 ghost use Rattle.domain_plan.specs.Regions.{region_item, runs_drawn, host_in, placed_item};
 ghost use Rattle.domain_plan.specs.PrivateRuns.{has_id, is_run_of, is_requested, request_of, asked, requests_in};
 
-use crate::planned::PlanFault;
-use crate::state::Region;
 use described::{Described, Item, Part, What, Why};
 use frame_alloc::{FramePool, PoolFault};
+use item_checks::{PlanFault, Region};
 use std::alloc::{AllocError, Global};
 use texts::{Bytes, List};
 

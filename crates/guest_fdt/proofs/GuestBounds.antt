@@ -8,11 +8,11 @@ use Rattle.described.specs.declared.item.What.{What}
 use Rattle.described.specs.declared.item.What.TheVariants as whats
 use Rattle.texts.specs.declared.ranges.FrameRange.{FrameRange}
 use Rattle.frame_ranges.specs.Ranges.{touched}
-use Rattle.domain_plan.specs.declared.guests.Guest.{Guest}
+use Rattle.item_checks.specs.declared.guests.Guest.{Guest}
 use Rattle.domain_plan.specs.Arguments.{IsSoundGuest, whats_of}
-use Rattle.domain_plan.specs.Entries.{items_of, is_read}
+use Rattle.item_checks.specs.Entries.{items_of, is_read}
 use Rattle.domain_plan.specs.Plans.{as_pair, banks_filled, memories_of, port_of, region_of, said_by, static_memory}
-use Rattle.domain_plan.specs.Taken.{Passed, bank_pages, is_direct, pages_before, static_pages}
+use Rattle.item_checks.specs.Taken.{Passed, bank_pages, is_direct, pages_before, static_pages}
 use Rattle.domain_plan.proofs.MapLemmas.{touched_whole}
 use Rattle.domain_plan.proofs.MemoryLemmas.{said_all, statics_all, statics_in, whats_in}
 use Rattle.domain_plan.proofs.OwnItems.{own_of, own_passed, same_direct, same_said, same_static}

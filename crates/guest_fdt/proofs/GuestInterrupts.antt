@@ -11,18 +11,18 @@ use Rattle.fdt_tree.specs.Tree.{Tree}
 use Rattle.fdt_nodes.specs.Nodes.{Node}
 use Rattle.domain_bindings.specs.Heads.{head_item}
 use Rattle.domain_plan.specs.Arguments.{has_no_fault}
-use Rattle.domain_plan.specs.Entries.{items_of, is_read, of_guest, partial_items}
+use Rattle.item_checks.specs.Entries.{items_of, is_read, of_guest, partial_items}
 use Rattle.domain_plan.specs.PrivateGiving.{irq_of}
 use Rattle.domain_plan.specs.Plans.{spis_of, said_by}
-use Rattle.domain_plan.specs.Reasons.{is_irq}
-use Rattle.domain_plan.specs.Taken.{Passed, belongs_to, what_of}
+use Rattle.item_checks.specs.Reasons.{is_irq}
+use Rattle.item_checks.specs.Taken.{Passed, belongs_to, what_of}
 use Rattle.domain_plan.proofs.MemoryLemmas.{whats_in}
 use Rattle.domain_plan.proofs.OwnItems.{own_entries}
 use Rattle.domain_plan.proofs.SpiLemmas.{filter_same, irqs_tell}
 use Rattle.static_links.specs.Ports.{port_items}
 use Rattle.static_links.specs.Shared.{shared_items}
-use Rattle.tree_plan.specs.Descriptions.{partial_state}
-use Rattle.tree_plan.proofs.Sound.{full}
+use Rattle.domain_plan.specs.Descriptions.{partial_state}
+use Rattle.domain_plan.proofs.Sound.{full}
 use Rattle.guest_fdt.specs.Copies.{copied_paths, found_in}
 use Rattle.guest_fdt.specs.Described.{partial_devices}
 use Rattle.guest_fdt.specs.Laws.{is_no_memory}

@@ -22,8 +22,8 @@ use Rattle.passthrough_dtb.specs.Ranges as ranges
 use Rattle.static_links.specs.Channels.{event_channel}
 use Rattle.static_links.specs.Ports.{port_item, port_items, ports_after}
 use Rattle.static_links.specs.Shared.{children_with, shared_from, shared_item, shared_items, shared_memory}
-use Rattle.domain_plan.specs.Entries.{partial_items}
-use Rattle.tree_plan.specs.Descriptions.{partial_state}
+use Rattle.item_checks.specs.Entries.{partial_items}
+use Rattle.domain_plan.specs.Descriptions.{partial_state}
 
 -- an interrupt of a partial tree as an item
 abbrev pub irq_item : ℕ → Bytes → List Interrupt → ℕ → Interrupt → Described

@@ -30,12 +30,12 @@ use Rattle.passthrough_dtb.specs.Ranges as ranges
 use Rattle.static_links.specs.Channels.{Channel, Ends, ends_of, other_end}
 use Rattle.static_links.specs.Ports.{link, linked_to, port_item, port_items, port_reason, port_what}
 use Rattle.static_links.specs.Shared.{is_owner, region, shared_id, shared_item, shared_items, shared_reason, shared_what}
-use Rattle.domain_plan.specs.Entries.{partial_items}
+use Rattle.item_checks.specs.Entries.{partial_items}
 use Rattle.domain_plan.specs.Memories.{HasOneKindOfMemory}
-use Rattle.domain_plan.specs.Taken.{says_direct, static_pages}
+use Rattle.item_checks.specs.Taken.{says_direct, static_pages}
 use Rattle.domain_plan.proofs.MemoryLemmas.{whats_in}
-use Rattle.tree_plan.specs.Descriptions.{partial_state}
-use Rattle.tree_plan.proofs.Sound.{full}
+use Rattle.domain_plan.specs.Descriptions.{partial_state}
+use Rattle.domain_plan.proofs.Sound.{full}
 use Rattle.guest_fdt.proofs.GuestFits.{head_is_covered}
 use Rattle.guest_fdt.proofs.GuestItems.{own_rest, rest_items, each_of_own, each_of_partial, each_of_ports, each_of_rest, each_of_shared}
 

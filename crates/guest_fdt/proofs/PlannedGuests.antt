@@ -13,19 +13,19 @@ use Rattle.domain_bindings.specs.Domains.{guest_nodes}
 use Rattle.domain_bindings.specs.Heads.{head_item, head_reason, head_what, is_past_limit}
 use Rattle.domain_bindings.proofs.Sound.{own-described}
 use Rattle.domain_bindings.specs.declared.host.Host.{Host}
-use Rattle.domain_plan.specs.declared.guests.Guest.{Guest}
+use Rattle.item_checks.specs.declared.guests.Guest.{Guest}
 use Rattle.domain_plan.specs.declared.planned.GuestPlan.{GuestPlan}
 use Rattle.domain_plan.specs.Arguments.{has_no_fault}
-use Rattle.domain_plan.specs.Entries.{Entry, joined, of_host, load_item, guest_entries}
+use Rattle.item_checks.specs.Entries.{Entry, joined, of_host, load_item, guest_entries}
 use Rattle.domain_plan.specs.Plans.{Draws, outcome}
-use Rattle.domain_plan.specs.Refusals.{Refusal}
-use Rattle.domain_plan.specs.Taken.{Passed}
+use Rattle.item_checks.specs.Refusals.{Refusal}
+use Rattle.item_checks.specs.Taken.{Passed}
 use Rattle.domain_plan.proofs.ApartLemmas.{outcome_tells}
 use Rattle.domain_plan.proofs.HeadLemmas.{no_own}
 use Rattle.domain_plan.proofs.OwnItems.{own_entries}
-use Rattle.tree_plan.specs.Descriptions.{Description, host_of, guest_of, guests_of, guests_from, partial_at}
-use Rattle.tree_plan.specs.TreePlans.{TreePlan, guest_plan, guest_plans, items_in, plan_from, plan_of}
-use Rattle.tree_plan.proofs.Sound.{full, bare}
+use Rattle.domain_plan.specs.Descriptions.{Description, host_of, guest_of, guests_of, guests_from, partial_at}
+use Rattle.domain_plan.specs.TreePlans.{TreePlan, guest_plan, guest_plans, items_in, plan_from, plan_of}
+use Rattle.domain_plan.proofs.Sound.{full, bare}
 use Rattle.guest_fdt.proofs.GuestFits.{head_is_within}
 
 -- ---- what the plan of a guest comes from

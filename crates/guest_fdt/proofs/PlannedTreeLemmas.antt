@@ -11,19 +11,19 @@ use Rattle.fdt_nodes.specs.Nodes.{Node}
 use Rattle.domain_bindings.specs.Heads.{head_item}
 use Rattle.domain_bindings.specs.declared.host.Host.{Host}
 use Rattle.static_links.specs.Channels.{event_channels}
-use Rattle.domain_plan.specs.declared.guests.Guest.{Guest}
+use Rattle.item_checks.specs.declared.guests.Guest.{Guest}
 use Rattle.domain_plan.specs.declared.planned.GuestPlan.{GuestPlan}
 use Rattle.domain_plan.specs.Arguments.{AreRead, IsSoundGuest, has_no_fault}
-use Rattle.domain_plan.specs.Entries.{items_of, joined}
+use Rattle.item_checks.specs.Entries.{items_of, joined}
 use Rattle.domain_plan.specs.PrivateGiving.{IsReady, irq_of}
 use Rattle.domain_plan.specs.GuestMaps.{guest_ranges}
 use Rattle.domain_plan.specs.PrivateLaying.{AreApart, AreLowRanges}
 use Rattle.domain_plan.specs.Memories.{is_listed, is_ram, is_ram_target}
 use Rattle.domain_plan.specs.Plans.{Draws, memories_of, placed_of, said_by}
-use Rattle.domain_plan.specs.Refusals.{Refusal}
+use Rattle.item_checks.specs.Refusals.{Refusal}
 use Rattle.domain_plan.specs.Regions.{placed_item, placed_what}
 use Rattle.domain_plan.specs.declared.runs.Run.{Run}
-use Rattle.domain_plan.specs.Taken.{Passed}
+use Rattle.item_checks.specs.Taken.{Passed}
 use Rattle.domain_plan.proofs.ApartLemmas.{outcome_tells}
 use Rattle.domain_plan.proofs.GuestsLaw.{sound_guest}
 use Rattle.domain_plan.proofs.MapResult.{map_result}
@@ -32,10 +32,10 @@ use Rattle.domain_plan.proofs.OwnItems.{own_entries, own_of, own_passed, same_ra
 use Rattle.domain_plan.proofs.PlacedGuests.{placed_guest, items_placed, whats_of_placed, guest_sound}
 use Rattle.domain_plan.proofs.PlacedLaws.{memory_is_mapped, ready_guest, own_guest}
 use Rattle.domain_plan.proofs.Placing.{kept_what}
-use Rattle.tree_plan.specs.Descriptions.{Description, host_of, guests_of, partial_at}
-use Rattle.tree_plan.specs.TreePlans.{TreePlan, guest_plan, runs_in, items_in, plan_of}
-use Rattle.tree_plan.proofs.Determined.{description_read}
-use Rattle.tree_plan.proofs.Sound.{full}
+use Rattle.domain_plan.specs.Descriptions.{Description, host_of, guests_of, partial_at}
+use Rattle.domain_plan.specs.TreePlans.{TreePlan, guest_plan, runs_in, items_in, plan_of}
+use Rattle.domain_plan.proofs.Determined.{description_read}
+use Rattle.domain_plan.proofs.Sound.{full}
 use Rattle.guest_fdt.specs.Bounds.{IsBounded}
 use Rattle.guest_fdt.specs.Laws.{IsDescription}
 use Rattle.guest_fdt.specs.PlannedTrees.{AllGuestsAreListed}

@@ -9,7 +9,7 @@ use Rattle.frame_alloc.specs.Frames.{AreFrameRangesFrom, AreFrameRanges, AreFram
 use Rattle.frame_alloc.proofs.FreeFrames.{AreFramesFrom-weaker}
 use Rattle.domain_bindings.specs.Hosts.{ram_regions}
 use Rattle.domain_bindings.specs.Ram.{is_ram, ram_frames}
-use Rattle.tree_plan.specs.Descriptions.{Description, host_of, with_frame, frames_as_ranges}
+use Rattle.domain_plan.specs.Descriptions.{Description, host_of, with_frame, frames_as_ranges}
 
 -- consecutive numbers below a bound are ascending frames
 ascending_numbers : (first count : ℕ) → first + count ≤ 2 ^ 28 → AreFramesFrom first (range_with_len first count)

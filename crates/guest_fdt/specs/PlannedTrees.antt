@@ -1,8 +1,8 @@
 -- The trees of the guests of a plan: where no item of a description is refused, there are few, each can be written, and lists what is described.
 use Rattle.std.specs.Prelude.{◌≡◌, ◌≤◌, ℕ, All, Some, Ok, length, slice_get}
 use Rattle.domain_plan.specs.declared.planned.GuestPlan.{GuestPlan}
-use Rattle.tree_plan.specs.Descriptions.{Description, partial_at}
-use Rattle.tree_plan.specs.TreePlans.{TreePlan, plan_of}
+use Rattle.domain_plan.specs.Descriptions.{Description, partial_at}
+use Rattle.domain_plan.specs.TreePlans.{TreePlan, plan_of}
 use Rattle.guest_fdt.specs.Bounds.{IsBounded}
 use Rattle.guest_fdt.specs.Laws.{ListsTheGuest}
 

@@ -9,7 +9,7 @@ use Rattle.guest_images.specs.declared.fault.ImagesFault.{ImagesFault}
 use Rattle.guest_images.specs.declared.fault.ImagesFault.TheVariants.{Refused, Memory}
 use Rattle.guest_images.specs.Requests.{tables_item, no_table_frame, left_by, left_by_all, refused_tables}
 use Rattle.guest_images.specs.PrivateImageFiles.{IsImageFile, AreImageFiles}
-use Rattle.domain_plan.specs.Refusals.{or_later}
+use Rattle.item_checks.specs.Refusals.{or_later}
 
 -- one more guest draws from what those before it left
 pub left_more : (plans : List GuestPlan) (plan : GuestPlan) (free : List ℕ) → left_by_all (plans ++ plan ∷ []) free ≡ left_by plan (left_by_all plans free)

@@ -18,7 +18,8 @@ use Rattle.stage2_tables.proofs.DrawLemmas.{drawn_free, drawn_taken, free_after-
 use Rattle.domain_plan.specs.declared.planned.GuestPlan.{GuestPlan}
 use Rattle.guest_images.specs.Requests.{tables_needed, left_by}
 use Rattle.guest_images.specs.PrivateImageFiles.{IsImageFile, AreImageFiles}
-use Rattle.guest_images.specs.Walks.{walked, WalksAsDescribed, AllWalk, walk_of, frame_of, attributes_of, MeetOnlyIn, tables_in, tables_of, AreApart, target_in, ArePlannedApart}
+use Rattle.guest_images.specs.Walks.{walked, WalksAsDescribed, AllWalk, walk_of, frame_of, attributes_of, MeetOnlyIn, tables_in, tables_of, AreApart}
+use Rattle.domain_plan.specs.Apart.{target_in, ArePlannedApart}
 
 -- each image walks as its guest's map says
 image_walks : (plan : GuestPlan) (free image : List ℕ) → IsImageFile plan.ranges free image → WalksAsDescribed plan image

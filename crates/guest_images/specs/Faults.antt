@@ -1,6 +1,6 @@
 -- Why no images are built.
 use Rattle.std.specs.Prelude.{◌≡◌, Option, Some}
-use Rattle.domain_plan.specs.Refusals.{Refusal}
+use Rattle.item_checks.specs.Refusals.{Refusal}
 use Rattle.guest_images.specs.declared.fault.ImagesFault.{ImagesFault}
 use Rattle.guest_images.specs.declared.fault.ImagesFault.TheVariants.{Refused, Memory}
 

@@ -9,7 +9,7 @@ use Rattle.described.specs.declared.why.Why.TheVariants.{NoTableFrame}
 use Rattle.frame_alloc.specs.Frames.{lowest_pair}
 use Rattle.stage2_tables.specs.Draws.{free_after}
 use Rattle.domain_plan.specs.declared.planned.GuestPlan.{GuestPlan}
-use Rattle.domain_plan.specs.Refusals.{Refusal, or_later}
+use Rattle.item_checks.specs.Refusals.{Refusal, or_later}
 
 -- how many tables a guest's map needs
 abbrev pub tables_needed : GuestPlan → ℕ

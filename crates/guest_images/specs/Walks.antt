@@ -3,7 +3,6 @@ use Rattle.std.specs.Prelude.{◌≡◌, ◌≢◌, ◌<◌, ◌/◌, ◌^◌, �
 use Rattle.texts.specs.Consecutive.{is_in}
 use Rattle.described.specs.Maps.{Target, attributes, target_of}
 use Rattle.described.specs.declared.map_range.Kind.TheVariants.{Shared}
-use Rattle.frame_alloc.specs.Frames.{AreFrames}
 use Rattle.stage2_walk.specs.Pages.{Page, frames_of}
 use Rattle.stage2_walk.specs.Files.{image_of}
 use Rattle.stage2_walk.specs.Walks.{walk, reached}
@@ -68,16 +67,3 @@ pub record AreApart (images : List (List ℕ)) : Type 0 where
       → (attributes_of images one here ≡ Some (attributes Shared)) × (attributes_of images other there ≡ Some (attributes Shared))
   pub unmapped : (one other here frame : ℕ) → here < 2 ^ 40 → IsTrue (is_in (tables_of images one) frame) → frame_of images other here ≢ Some frame
   pub tables : (one other frame : ℕ) → one ≢ other → IsTrue (is_in (tables_of images one) frame) → is_in (tables_of images other) frame ≡ false
-
--- where the n-th guest's map sends a page; past the last, nowhere
-abbrev pub target_in : List GuestPlan → ℕ → ℕ → Option Target
-target_in [] n page = None
-target_in (guest ∷ guests) zero page = target_of guest.ranges page
-target_in (guest ∷ guests) (suc n) page = target_in guests n page
-
--- Maps are apart, and from the frames that are left: a frame of two guests is shared in both and common to them, and no frame that is left is mapped.
-pub record ArePlannedApart (common : ℕ → ℕ → ℕ → Bool) (guests : List GuestPlan) (free : List ℕ) : Type 0 where
-  pub ascending : AreFrames free
-  pub meet : (one other page next : ℕ) (a b : Target) → one ≢ other → target_in guests one page ≡ Some a → target_in guests other next ≡ Some b → a.frame ≡ b.frame
-      → (a.kind ≡ Shared) × (b.kind ≡ Shared) × IsTrue (common one other a.frame)
-  pub unmapped : (n page : ℕ) (target : Target) → target_in guests n page ≡ Some target → is_in free target.frame ≡ false

@@ -5,7 +5,8 @@ ghost use Rattle.guest_images.specs.Built.{files_in, tables_counted};
 ghost use Rattle.guest_images.specs.Faults.{IsFaultOf};
 ghost use Rattle.guest_images.specs.Images.{least_files};
 ghost use Rattle.guest_images.specs.Requests.{left_by_all, refused_tables, tables_needed};
-ghost use Rattle.guest_images.specs.Walks.{AllWalk, AreApart, ArePlannedApart, MeetOnlyIn};
+ghost use Rattle.guest_images.specs.Walks.{AllWalk, AreApart, MeetOnlyIn};
+ghost use Rattle.domain_plan.specs.Apart.{ArePlannedApart};
 
 use crate::fault::ImagesFault;
 use crate::image::build_image;

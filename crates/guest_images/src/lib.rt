@@ -4,6 +4,8 @@
 mod fault;
 mod image;
 mod images;
+mod names;
 
 pub use fault::ImagesFault;
 pub use images::{GuestImage, build_images};
+pub use names::{make_guest_name, make_image_name};

@@ -22,7 +22,8 @@ use Rattle.stage2_walk.specs.Runs.{map_of}
 use Rattle.stage2_walk.specs.declared.image_fault.ImageFault.{ImageFault}
 use Rattle.stage2_tables.specs.Translation.{translated}
 use Rattle.domain_plan.specs.declared.planned.GuestPlan.{GuestPlan}
-use Rattle.guest_images.specs.Walks.{walked, WalksAsDescribed, AllWalk, frame_of, tables_in, tables_of, AreApart, target_in, ArePlannedApart}
+use Rattle.guest_images.specs.Walks.{walked, WalksAsDescribed, AllWalk, frame_of, tables_in, tables_of, AreApart}
+use Rattle.domain_plan.specs.Apart.{target_in, ArePlannedApart}
 use Rattle.guest_images.proofs.WalksApart.{reached_from, images_meet, images_share}
 use Rattle.image_audit.specs.Findings.{planned_map, first_difference, difference, tear, table_where, is_mapped}
 use Rattle.image_audit.specs.Texts.{frame_text, table_mapped, table_shared}

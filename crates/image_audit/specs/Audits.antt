@@ -9,12 +9,13 @@ use Rattle.stage2_walk.specs.Pages.{Page}
 use Rattle.stage2_walk.specs.Files.{image_of}
 use Rattle.stage2_walk.specs.declared.image_fault.ImageFault.{ImageFault}
 use Rattle.domain_plan.specs.declared.planned.GuestPlan.{GuestPlan}
-use Rattle.guest_images.specs.Walks.{AllWalk, MeetOnlyIn, AreApart, ArePlannedApart, tables_in}
+use Rattle.guest_images.specs.Walks.{AllWalk, MeetOnlyIn, AreApart, tables_in}
+use Rattle.domain_plan.specs.Apart.{ArePlannedApart}
 use Rattle.run_steps.specs.Endings.{Outcome}
 use Rattle.run_steps.specs.Messages.{file_message}
 use Rattle.run_steps.specs.Names.{joined}
 use Rattle.run_steps.specs.Steps.{IsRefusal, OnResult, IsReading, AfterReading}
-use Rattle.build_outputs.specs.Names.{image_name}
+use Rattle.guest_images.specs.Names.{image_name}
 use Rattle.image_audit.specs.Findings.{audit_finding, is_mapped}
 use Rattle.image_audit.specs.Texts.{image_fault_text}
 

@@ -5,7 +5,9 @@ ghost use Rattle.described.specs.Maps.{AreMapRanges, AreMerged};
 ghost use Rattle.frame_alloc.specs.Frames.{AreFrameRanges};
 ghost use Rattle.stage2_walk.specs.Files.{image_of};
 ghost use Rattle.stage2_walk.specs.Pages.{frames_of, page_of};
+ghost use Rattle.guest_images.specs.Names.{image_name};
 ghost use Rattle.guest_images.specs.Walks.{tables_in};
+ghost use Rattle.run_steps.specs.Names.{joined};
 ghost use Rattle.run_steps.specs.Steps.{nothing};
 ghost use Rattle.run_steps.specs.Stops.{Grew, IsDue, IsOwnDue};
 ghost use Rattle.image_audit.specs.Audits.{AfterAudit, AfterAudits, AfterImage, IsAudited, FindsNothing, IsSound, UnlessFound};
@@ -15,14 +17,14 @@ ghost use Rattle.image_audit.specs.PrivateRests.{is_outside, IsLeft};
 use crate::finding::find_finding;
 use crate::findings_text::make_image_fault_text;
 use crate::frames::{all_frames, find_unmapped, leave_tables};
-use build_outputs::make_image_name;
 use described::MapRange;
 use domain_plan::GuestPlan;
+use guest_images::make_image_name;
 use outside::{Files, Status};
-use run_steps::{Stop, make_file_message, read_file};
+use run_steps::{Stop, join, make_file_message, read_file};
 use stage2_walk::{Counted, Image, read_image};
-use std::alloc::Global;
-use texts::{FrameRange, List};
+use std::alloc::{AllocError, Global};
+use texts::{FrameRange, List, Text};
 
 // The longest image that is read, in bytes.
 const IMAGE_LIMIT: u64 = 268_435_456;
@@ -62,6 +64,14 @@ pub fn audit_images<F: Files>(
     Ok(())
 }
 
+/// The name of the image of the guest with this number, in a folder where one is given.
+fn make_image_path(alloc: Global, folder: Option<&str>, number: u64) -> Result<Text, AllocError>
+    ensures { IfOk result (λ name. name ≡ joined (option_copied folder.entry) (image_name number)) }
+{
+    let name = make_image_name(alloc, number)?;
+    join(alloc, folder, name.as_str())
+}
+
 /// Audits the image of a guest, where some frames are mapped by no guest, and some are free of the tables of earlier images.
 /// Answers the frames that are then free.
 fn audit_image<F: Files>(
@@ -81,7 +91,7 @@ fn audit_image<F: Files>(
     ensures grew { Grew (F.faults files.old, F.absents files.old, F.overlong files.old) (F.faults files.new, F.absents files.new, F.overlong files.new) }
     ensures kept { F.held files.new ≡ F.held files.old }
 {
-    let name = make_image_name(alloc, folder, guest.number)?;
+    let name = make_image_path(alloc, folder, guest.number)?;
     let bytes = read_file(alloc, name.as_str(), IMAGE_LIMIT, files)?;
     audit_file(
         alloc,

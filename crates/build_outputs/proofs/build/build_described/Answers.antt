@@ -8,8 +8,8 @@ use Rattle.guest_images.specs.Built.{files_in as images_in}
 use Rattle.run_steps.specs.Names.{joined}
 use Rattle.build_outputs.specs.Made.{files_in}
 use Rattle.guest_images.specs.Walks.{AllWalk, MeetOnlyIn, AreApart}
-use Rattle.tree_plan.specs.Descriptions.{description_of, partial_at}
-use Rattle.tree_plan.specs.TreePlans.{TreePlan, is_common}
+use Rattle.domain_plan.specs.Descriptions.{description_of, partial_at}
+use Rattle.domain_plan.specs.TreePlans.{TreePlan, is_common}
 use Rattle.build_outputs.specs.Names.{host_name}
 use Rattle.build_outputs.specs.Outputs.{host_output, tree_outputs, image_outputs, images_of, in_turn, in_folder, frames_left, with_tables}
 use Rattle.build_outputs.specs.Totals.{all_pages, all_tables}

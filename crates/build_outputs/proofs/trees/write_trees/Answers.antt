@@ -3,7 +3,7 @@ use Rattle.std.proofs.lemmas.List.{map-append}
 use Rattle.std.specs.Option.{option_copied}
 use Rattle.outside.specs.Outside.{File}
 use Rattle.run_steps.specs.Outputs.{file_of}
-use Rattle.tree_plan.specs.Descriptions.{trees_in}
+use Rattle.domain_plan.specs.Descriptions.{trees_in}
 use Rattle.build_outputs.specs.Made.{files_in}
 use Rattle.build_outputs.specs.Outputs.{in_folder}
 use Rattle.build_outputs.proofs.TreeFiles.{outputs_more, fits_more, spelled_more, first_stop, all_spelled}

@@ -1,6 +1,6 @@
 use Rattle.std.proofs.Common.{◌≡◌, take, None}
 use Rattle.std.specs.Option.{option_copied}
-use Rattle.tree_plan.specs.Descriptions.{trees_in}
+use Rattle.domain_plan.specs.Descriptions.{trees_in}
 use Rattle.build_outputs.specs.Lengths.{refused_trees}
 use Rattle.build_outputs.specs.Made.{files_in}
 use Rattle.build_outputs.specs.Outputs.{in_folder, tree_outputs}

@@ -1,5 +1,5 @@
 use Rattle.std.specs.Option.{option_copied}
-use Rattle.tree_plan.specs.Descriptions.{description_of}
+use Rattle.domain_plan.specs.Descriptions.{description_of}
 use Rattle.dom0less_words.specs.Meant.{meant_source}
 use Rattle.build_sources.specs.Meant.{meant_stand}
 use Rattle.build_sources.proofs.Pairs.{stand_has_no_last}

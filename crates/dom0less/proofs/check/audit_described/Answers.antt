@@ -1,7 +1,7 @@
 use Rattle.std.specs.Option.{option_copied}
 use Rattle.run_steps.specs.Outputs.{report_of}
-use Rattle.tree_plan.specs.Descriptions.{description_of}
-use Rattle.tree_plan.specs.TreePlans.{TreePlan}
+use Rattle.domain_plan.specs.Descriptions.{description_of}
+use Rattle.domain_plan.specs.TreePlans.{TreePlan}
 use Rattle.dom0less.proofs.Checks.{audit_due, checked, audited, put_report}
 use Rattle.dom0less.proofs.check.audit_described.Goals as goal
 

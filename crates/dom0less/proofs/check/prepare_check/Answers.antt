@@ -1,6 +1,6 @@
 use Rattle.std.specs.Option.{option_copied}
 use Rattle.run_steps.proofs.Due.{grew_twice}
-use Rattle.tree_plan.specs.Descriptions.{description_of}
+use Rattle.domain_plan.specs.Descriptions.{description_of}
 use Rattle.dom0less_words.specs.Meant.{meant_source}
 use Rattle.build_sources.specs.Meant.{meant_stand}
 use Rattle.dom0less.proofs.Checks.{check_source_due, check_partials_due, check_made, check_promised, check_stopped}

@@ -1,21 +1,14 @@
 use Rattle.std.proofs.Common.{◌≡◌, List, [], ◌∷◌, ◌++◌, sym, subst, ◌∙◌}
 use Rattle.described.specs.declared.item.Described.{Described}
-use Rattle.described.specs.Sound.{IsSound}
-use Rattle.domain_plan.specs.Taken.{passing}
+use Rattle.item_checks.specs.Taken.{passing}
 use Rattle.domain_plan.specs.Regions.{placed_item}
-use Rattle.domain_plan.specs.PrivateStanding.{entry_of}
+use Rattle.item_checks.specs.Standing.{entry_of}
 use Rattle.domain_plan.specs.PrivateGiving.{Gives}
 use Rattle.domain_plan.proofs.PlacedGuests.{placed_is}
 use Rattle.domain_plan.proofs.giving.give_placed.Goals as goal
 
-pub give_item-requires-clause-sound : goal.give_item-requires-clause-sound
-give_item-requires-clause-sound c =
+pub returns : goal.returns
+returns c number drawn before is gives =
     let whole : Described = placed_item c.args.runs.now c.args.described.now in
     let same : c.placed_or-item.result.now ≡ whole = c.placed_or-item.ensures ∙ placed_is c.in_ok-placed.placed c.args.described.now whole c.in_ok-placed.ensures.placed c.in_ok-placed.ensures.stays in
-    subst (λ (one : Described). IsSound one.what) (sym same) c.requires.sound
-
-pub returns-clause-given : goal.returns-clause-given
-returns-clause-given c number drawn before is gives =
-    let whole : Described = placed_item c.args.runs.now c.args.described.now in
-    let same : c.placed_or-item.result.now ≡ whole = c.placed_or-item.ensures ∙ placed_is c.in_ok-placed.placed c.args.described.now whole c.in_ok-placed.ensures.placed c.in_ok-placed.ensures.stays in
-    subst (λ (one : Described). Gives number drawn (before ++ passing before (entry_of c.args.owner one) ∷ []) c.give_item.new.given) same (c.in_ok-give_item.ensures.given number drawn before is gives)
+    subst (λ (one : Described). Gives number drawn (before ++ passing before (entry_of c.args.owner one) ∷ []) c.give_item.new.given) same (c.in_ok-give_item.ensures number drawn before is gives)

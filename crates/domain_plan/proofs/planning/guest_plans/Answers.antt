@@ -1,9 +1,9 @@
 use Rattle.std.proofs.Common.{◌≡◌, ◌<◌, ◌≤◌, List, [], map, Vec, Global, Some, length, sym, ap, subst, ◌∙◌, arith}
 use Rattle.std.specs.Prelude.{slice_get}
 use Rattle.texts.specs.declared.ranges.FrameRange.{FrameRange}
-use Rattle.domain_plan.specs.declared.guests.Guest.{Guest}
-use Rattle.domain_plan.specs.Entries.{of_guest, is_read, items_of}
-use Rattle.domain_plan.specs.Taken.{all_passed}
+use Rattle.item_checks.specs.declared.guests.Guest.{Guest}
+use Rattle.item_checks.specs.Entries.{of_guest, is_read, items_of}
+use Rattle.item_checks.specs.Taken.{all_passed}
 use Rattle.domain_plan.specs.Plans.{Draws, placed_of, IsGuestPlan, AreGuestPlans}
 use Rattle.domain_plan.specs.PrivateGiving.{IsReady}
 use Rattle.domain_plan.specs.Regions.{placed_item}

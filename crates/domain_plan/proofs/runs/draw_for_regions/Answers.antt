@@ -1,7 +1,7 @@
 use Rattle.std.proofs.Common.{◌≡◌, ℕ, ◌+◌, ◌<◌, ◌≤◌, ◌++◌, List, [], take, drop, length, Ok, Err, refl, sym, ap, ◌∙◌, rules, arith}
 use Rattle.domain_plan.specs.Regions.{runs_drawn}
 use Rattle.domain_plan.specs.PrivateRuns.{asked, requests_in}
-use Rattle.domain_plan.specs.declared.state.Region.{Region}
+use Rattle.item_checks.specs.declared.state.Region.{Region}
 use Rattle.domain_plan.specs.declared.runs.Run.{Run}
 use Rattle.domain_plan.proofs.RunSteps.{after_runs, runs_start, region_met, region_unmet, regions_done}
 use Rattle.domain_plan.proofs.runs.draw_for_regions.Goals as goal

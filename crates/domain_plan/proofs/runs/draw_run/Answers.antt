@@ -4,8 +4,8 @@ use Rattle.described.specs.declared.why.Why.{Why}
 use Rattle.described.specs.declared.why.Why.TheVariants.{NoRam}
 use Rattle.frame_alloc.specs.Frames.{lowest_run}
 use Rattle.frame_alloc.proofs.AscendingFrames.{lowest_run-bound}
-use Rattle.domain_plan.specs.declared.planned.PlanFault.{PlanFault}
-use Rattle.domain_plan.specs.declared.planned.PlanFault.TheVariants as faults
+use Rattle.item_checks.specs.declared.faults.PlanFault.{PlanFault}
+use Rattle.item_checks.specs.declared.faults.PlanFault.TheVariants as faults
 use Rattle.domain_plan.specs.Regions.{Request, region_item}
 use Rattle.domain_plan.specs.PrivateRuns.{request_of}
 use Rattle.domain_plan.specs.declared.runs.Run.{Run}

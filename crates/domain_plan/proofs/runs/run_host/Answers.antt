@@ -4,7 +4,7 @@ use Rattle.std.specs.List.{find}
 use Rattle.std.proofs.lemmas.List.{drop_more, drop_all}
 use Rattle.domain_plan.specs.declared.runs.Run.{Run}
 use Rattle.domain_plan.specs.PrivateRuns.{is_run_of}
-use Rattle.domain_plan.proofs.RegionLemmas.{found, missed}
+use Rattle.item_checks.proofs.RegionLemmas.{found, missed}
 use Rattle.domain_plan.proofs.runs.run_host.Goals as goal
 
 pub returns-then-is_run_of : goal.returns-then-is_run_of

@@ -1,7 +1,0 @@
-use Rattle.std.proofs.Common.{drop}
-use Rattle.domain_plan.specs.PrivateTakings.{AreClear}
-use Rattle.domain_plan.proofs.takings.may_meet_any.Given as goal
-
--- where the ranges from the index on are clear, all are
-abbrev pub invariant-loop-range : goal.invariant-loop-range
-invariant-loop-range l = AreClear l.ends (drop l.range-index l.ranges) → AreClear l.ends l.ranges

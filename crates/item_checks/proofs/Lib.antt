@@ -1,0 +1,11 @@
+pub mod CheckedLemmas
+pub mod EarliestLemmas
+pub mod GuestSteps
+pub mod Instances
+pub mod IrqLemmas
+pub mod LayoutLemmas
+pub mod LoopLemmas
+pub mod ReasonLemmas
+pub mod RegionLemmas
+pub mod StandingLemmas
+pub mod TakingsLemmas

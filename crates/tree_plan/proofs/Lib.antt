@@ -1,9 +1,0 @@
-pub mod FrameRanges
-pub mod MapRanges
-pub mod Unheld
-pub mod Sound
-pub mod SoundGuests
-pub mod Determined
-pub mod Apart
-pub mod Answered
-pub mod HeldLemmas

@@ -1,8 +1,0 @@
-use Rattle.std.proofs.Common.{◌≡◌, map}
-use Rattle.tree_plan.specs.Descriptions.{trees_in}
-use Rattle.tree_plan.specs.PrivateHeldGuests.{held_guest}
-use Rattle.tree_plan.proofs.guests.read_guests.Given as goal
-
--- the guests of the domains so far
-abbrev pub invariant-loop-domain : goal.invariant-loop-domain
-invariant-loop-domain l = l.guests ≡ map (held_guest l.tree (trees_in l.partials)) l.yielded

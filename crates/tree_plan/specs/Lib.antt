@@ -1,3 +1,0 @@
-pub mod Descriptions
-pub mod PrivateHeldGuests
-pub mod TreePlans
