@@ -4,7 +4,7 @@ from lib.boards import quad
 from lib.found import CRATES
 from lib.trees import Node
 
-CASES = CRATES / "dom0less_cases/data"
+CASES = CRATES / "cases/data"
 
 
 def cells(*numbers):
@@ -13,18 +13,22 @@ def cells(*numbers):
 
 class Case:
     """The words of a case and its files by their names, as bytes or as a count of zeros; of a file that is cut, the first lines
-    alone, one more in each run."""
+    alone, one more in each run; of one that is trimmed, one byte less at its end in each run."""
 
     def __init__(self, name):
-        self.words, self.files, self.cut, held = [], {}, None, None
+        self.words, self.files, self.cut, self.trim, held = [], {}, None, None, None
         for line in (CASES / name).read_text().splitlines():
             kind, _, value = line.partition(" ")
             if kind == "file":
                 held, self.files[value] = value, b""
             elif kind == "word":
                 self.words.append(value)
+            elif kind == "example":
+                self.words += value.split()
             elif kind == "cut":
                 self.cut = value
+            elif kind == "trim":
+                self.trim = value.split()
             elif kind == "zeros" and not self.files[held]:
                 self.files[held] = int(value)
             elif held and (piece := self.piece(kind, value)):
@@ -40,6 +44,9 @@ class Case:
 
     def runs(self):
         """The files of each run."""
+        if self.trim:
+            name, count = self.trim
+            return [{**self.files, name: self.files[name][:-less]} for less in range(1, int(count) + 1)]
         if self.cut is None:
             return [self.files]
         lines = self.files[self.cut].splitlines(keepends=True)

@@ -72,3 +72,7 @@ why_detail _ = []
 -- a reason's text
 abbrev pub why_text : Why → List ℕ
 why_text why = why_name why ++ why_detail why
+
+-- a refused item, and its reason
+abbrev pub refusal_text : Item → Why → List ℕ
+refusal_text item why = item_text item ++ (codes ": " ++ why_text why)

@@ -17,4 +17,5 @@ pub use loaded::Loaded;
 pub use map_range::{Kind, MapRange};
 pub use reasons::{described, is_not_page, is_too_high, is_too_large};
 pub use run_lines::{append_address, append_run, kind_text};
+pub use shown::append_refusal;
 pub use why::Why;

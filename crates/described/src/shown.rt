@@ -1,6 +1,6 @@
 // How items and reasons are shown.
 ghost use Rattle.std.specs.Prelude.{◌≡◌, ◌++◌, OnOk, decimal};
-ghost use Rattle.described.specs.Items.{item_text, why_name, why_detail, why_text};
+ghost use Rattle.described.specs.Items.{item_text, why_name, why_detail, why_text, refusal_text};
 
 use crate::{Item, Part, Why};
 use std::alloc::{AllocError, Global};
@@ -134,4 +134,18 @@ fn append_detail(alloc: Global, line: &mut Bytes, why: &Why) -> Result<(), Alloc
         Why::TreeTooLong(bytes) => append_number(alloc, line, " ", *bytes),
         _ => Ok(()),
     }
+}
+
+/// Adds a refused item and its reason: `ITEM: WHY`. After want of memory part of it may stand in the text.
+pub fn append_refusal(
+    alloc: Global,
+    line: &mut Bytes,
+    item: &Item,
+    why: &Why,
+) -> Result<(), AllocError>
+    ensures { OnOk result (line.new ≡ line.old ++ refusal_text item.now why.now) }
+{
+    item.append_text(alloc, line)?;
+    line.append(b": ")?;
+    why.append_text(alloc, line)
 }

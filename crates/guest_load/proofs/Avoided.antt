@@ -6,10 +6,11 @@ use Rattle.outside.specs.declared.status.Status.{Status}
 use Rattle.outside.specs.declared.status.Status.TheVariants as statuses
 use Rattle.run_steps.specs.Endings.{Refuses}
 use Rattle.run_steps.specs.Steps.{IsRefusal, IsReading, OnOption, AfterReading, IsSize, AfterSize}
-use Rattle.run_steps.specs.Trees.{FlatTree, AfterTreeFile, IsTreeFile}
+use Rattle.tree_files.specs.Trees.{FlatTree, AfterTreeFile, IsTreeFile}
 use Rattle.run_steps.proofs.Step.{Avoids, hand_on, hand_on_avoids, both_avoid}
-use Rattle.run_steps.proofs.ReadingSteps.{reading_step, size_step, tree_file_step}
-use Rattle.run_steps.proofs.Avoided.{IsOfNoFile, reading_avoids, size_avoids, tree_avoids}
+use Rattle.run_steps.proofs.ReadingSteps.{reading_step, size_step}
+use Rattle.run_steps.proofs.Avoided.{IsOfNoFile, reading_avoids, size_avoids}
+use Rattle.tree_files.proofs.TreeSteps.{tree_file_step, tree_avoids}
 use Rattle.guest_load.specs.declared.head.ImageHead.{ImageHead}
 use Rattle.guest_load.specs.declared.places.Place.{Place}
 use Rattle.guest_load.specs.declared.places.LoadPart.{LoadPart}

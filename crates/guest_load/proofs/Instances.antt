@@ -10,8 +10,9 @@ use Rattle.guest_load.specs.LoadPlaces.{load_places, first_past}
 use Rattle.fdt_tree.specs.Tree.{Property, Trees, none, tree, Tree}
 use Rattle.guest_load.specs.Banks.{first_bank, memories}
 use Rattle.guest_load.specs.Started.{started}
-use Rattle.guest_load.specs.Lines.{line, report, no_room_message, too_long_message}
+use Rattle.guest_load.specs.Lines.{line, report, no_room_message}
 use Rattle.guest_load.specs.Words.{asked}
+use Rattle.tree_files.specs.Lengths.{too_long_message}
 
 -- a head with these numbers, and no more
 abbrev image : ℕ → ℕ → List ℕ

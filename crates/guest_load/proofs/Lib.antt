@@ -7,7 +7,8 @@ pub mod PartSteps
 pub mod LoadingLemmas
 pub mod OneOutcome
 pub mod Avoided
-pub mod Exact
+pub mod Never
+pub mod Promised
 pub mod PlaceLemmas
 pub mod Loaded
 mod Instances

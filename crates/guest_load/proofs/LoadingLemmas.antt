@@ -5,13 +5,14 @@ use Rattle.fdt_tree.specs.Tree.{Tree}
 use Rattle.fdt_tree.specs.declared.reserve.Reserve.{Reserve}
 use Rattle.fdt_write.specs.Flattened.{flattened, length_limit}
 use Rattle.run_steps.specs.Endings.{Outcome, Refuses}
+use Rattle.tree_files.specs.Lengths.{IsLengthRefusal}
 use Rattle.guest_load.specs.declared.places.Place.{Place}
 use Rattle.guest_load.specs.declared.places.LoadPart.{LoadPart}
 use Rattle.guest_load.specs.LoadPlaces.{first_past, load_places, ramdisk_place}
 use Rattle.guest_load.specs.Started.{started}
 use Rattle.guest_load.specs.Lines.{no_room_message}
 use Rattle.guest_load.specs.Parts.{Parts}
-use Rattle.guest_load.specs.Job.{ramdisk_of, tree_of, plan_of, OnRoom, IsLengthRefusal, IsLoading}
+use Rattle.guest_load.specs.Job.{ramdisk_of, tree_of, plan_of, OnRoom, IsLoading}
 use Rattle.guest_load.proofs.RamdiskLemmas.{one-length}
 
 any_length : (reserves : List Reserve) (boot : ℕ) (t : Tree) (one other : Option Place) → is_some one ≡ is_some other

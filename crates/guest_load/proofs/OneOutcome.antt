@@ -1,12 +1,15 @@
 -- The words and files that tell what they hold call for one outcome.
+use Rattle.std.specs.Prelude.{IsNone}
 use Rattle.std.proofs.Common.{◌≤◌, ◌<◌, ℕ, List, Option, Some, None, inl, inr, arith, length}
 use Rattle.outside.specs.Outside.{File}
 use Rattle.outside.specs.declared.status.Status.TheVariants as statuses
+use Rattle.run_steps.specs.Endings.{Outcome}
 use Rattle.run_steps.specs.Laws.{IsDetermined}
 use Rattle.run_steps.specs.Steps.{IsRefusal, AfterReading, AfterSize}
-use Rattle.run_steps.specs.Trees.{AfterTreeFile}
+use Rattle.tree_files.specs.Trees.{AfterTreeFile}
 use Rattle.run_steps.proofs.Step.{hand_on}
-use Rattle.run_steps.proofs.OneOutcome.{Decides, both_decide, hand_on_decides, refusals_agree, writings_agree, on_option_decides, reading_decides, size_decides, tree_file_decides}
+use Rattle.run_steps.proofs.OneOutcome.{Decides, both_decide, hand_on_decides, never_agrees, refusals_agree, writings_agree, on_option_decides, reading_decides, size_decides}
+use Rattle.tree_files.proofs.TreeSteps.{tree_file_decides}
 use Rattle.guest_load.specs.declared.places.LoadPart.{LoadPart}
 use Rattle.guest_load.specs.Banks.{first_bank}
 use Rattle.guest_load.specs.Heads.{image_head}
@@ -14,8 +17,8 @@ use Rattle.guest_load.specs.Lines.{no_bank_message, no_image_message}
 use Rattle.guest_load.specs.LoadPlaces.{first_past}
 use Rattle.guest_load.specs.Words.{Asked, asked}
 use Rattle.guest_load.specs.Parts.{Parts, kernel_limit, AfterBank, AfterGuest, AfterHead, AfterKernel, AfterRamdisk, AfterParts}
-use Rattle.guest_load.specs.Job.{plan_of, OnRoom, IsLoading, IsWordsJob}
-use Rattle.guest_load.specs.Laws.{IsOneOutcome}
+use Rattle.guest_load.specs.Job.{plan_of, OnRoom, IsLoading, AreRefused, IsWordsJob, CallsFor}
+use Rattle.program.specs.Laws.{IsOneOutcome, AsksNothing}
 
 apart : (a b : ℕ) → a ≤ b → b < a → ⊥
 apart a b le lt = grind (arith)
@@ -53,9 +56,20 @@ module _ (held : List File) where
       (λ ramdisk. determined (record { tree = guest.0; bank = guest.1; head = kernel.0; kernel = kernel.1; ramdisk = ramdisk }))))
 
   words_agree : (asked : Option Asked) → IsDetermined (IsWordsJob (Some held) asked)
-  words_agree None = refusals_agree _ _
+  words_agree None = never_agrees
   words_agree (Some asked) = parts_decide asked (IsLoading asked.out) (loading_agrees asked.out)
 
 -- no words and files call for two outcomes that differ
-pub one_outcome : IsOneOutcome
+pub one_outcome : IsOneOutcome CallsFor
 one_outcome words held = words_agree held (asked words)
+
+never_none : (asked : Asked) → IsNone (Some asked) → ⊥
+never_none asked none = cc
+
+none_job : (told : Option (List File)) (asked : Option Asked) (outcome : Outcome) → IsNone asked → IsWordsJob told asked outcome → ⊥
+none_job told None outcome none job = job
+none_job told (Some asked) outcome none job = absurd (never_none asked none)
+
+-- words that are refused call for nothing
+pub asks_nothing : AsksNothing AreRefused CallsFor
+asks_nothing words text told outcome refused job = none_job told (asked words) outcome refused.0 job

@@ -5,9 +5,10 @@ use Rattle.outside.specs.Outside.{File}
 use Rattle.outside.specs.declared.status.Status.TheVariants as statuses
 use Rattle.run_steps.specs.Endings.{Outcome}
 use Rattle.run_steps.specs.Steps.{IsRefusal, IsReading, AfterReading, IsSize, AfterSize, nothing}
-use Rattle.run_steps.specs.Trees.{FlatTree, AfterTreeFile, IsTreeFile}
+use Rattle.tree_files.specs.Trees.{FlatTree, AfterTreeFile, IsTreeFile}
 use Rattle.run_steps.proofs.Step.{Next, IsStep, and_then, said_as, hand_on, hand_on_step, on_option_step}
-use Rattle.run_steps.proofs.ReadingSteps.{reading_step, size_step, tree_file_step}
+use Rattle.run_steps.proofs.ReadingSteps.{reading_step, size_step}
+use Rattle.tree_files.proofs.TreeSteps.{tree_file_step}
 use Rattle.guest_load.specs.declared.head.ImageHead.{ImageHead}
 use Rattle.guest_load.specs.declared.places.Place.{Place}
 use Rattle.guest_load.specs.Heads.{image_head}
@@ -25,10 +26,10 @@ abbrev pub IsKernel : Option (List File) → List ℕ → ImageHead × ℕ → T
 IsKernel told name kernel = (file : List ℕ) × IsReading told name kernel_limit (Ok file) × (image_head file ≡ Some kernel.0) × (kernel.1 ≡ length file)
 
 pub bank_step : (name : List ℕ) (tree : FlatTree) → IsStep (λ bank. first_bank tree.root ≡ Some bank) (AfterBank name tree)
-bank_step name tree = on_option_step (IsRefusal statuses.Refused (no_bank_message name)) (λ outputs report p. p) (first_bank tree.root)
+bank_step name tree = on_option_step (IsRefusal statuses.Refused (no_bank_message name)) (λ outputs report p. p) (λ status list p. p) (first_bank tree.root)
 
 pub head_step : (name bytes : List ℕ) → IsStep (λ head. image_head bytes ≡ Some head) (AfterHead name bytes)
-head_step name bytes = on_option_step (IsRefusal statuses.Format (no_image_message name)) (λ outputs report p. p) (image_head bytes)
+head_step name bytes = on_option_step (IsRefusal statuses.Format (no_image_message name)) (λ outputs report p. p) (λ status list p. p) (image_head bytes)
 
 module _ (told : Option (List File)) where
   pub guest_step : (name : List ℕ) → IsStep (IsGuest told name) (AfterGuest told name)

@@ -1,5 +1,5 @@
 -- What a run says: messages on `err`, each on one line behind the program's name, and the report on `out`.
-use Rattle.std.specs.Prelude.{ℕ, ◌-◌, ◌^◌, min, List, ◌++◌, flat_map, codes, decimal}
+use Rattle.std.specs.Prelude.{ℕ, List, ◌++◌, flat_map, codes}
 use Rattle.texts.specs.NumberTexts.{hexadecimal}
 use Rattle.run_steps.specs.Messages as messages
 use Rattle.guest_load.specs.declared.places.Place.{Place}
@@ -8,9 +8,13 @@ use Rattle.guest_load.specs.declared.places.LoadPart.{LoadPart}
 use Rattle.guest_load.specs.declared.places.LoadPart.TheVariants.{Kernel, Ramdisk, Tree}
 use Rattle.guest_load.specs.LoadPlaces.{parts}
 
+-- the program's name
+abbrev pub program_name : List ℕ
+program_name = codes "guest_load"
+
 -- a message of this program is one line on `err`, ended by a line feed
 abbrev pub line : List ℕ → List ℕ
-line message = messages.line (codes "guest_load") message
+line message = messages.line program_name message
 
 -- the tree of this name has no bank
 abbrev pub no_bank_message : List ℕ → List ℕ
@@ -19,10 +23,6 @@ no_bank_message name = messages.file_message name (codes "NoBank")
 -- the file of this name is no image
 abbrev pub no_image_message : List ℕ → List ℕ
 no_image_message name = messages.file_message name (codes "NotImage")
-
--- the tree of so many bytes is too long to be written under this name
-abbrev pub too_long_message : List ℕ → ℕ → List ℕ
-too_long_message name length = messages.file_message name (codes "TreeTooLong " ++ decimal (min length (2 ^ 64 - 1)))
 
 -- the name of a part
 abbrev pub part_text : LoadPart → List ℕ

@@ -4,7 +4,7 @@ use Rattle.outside.specs.Outside.{File}
 use Rattle.outside.specs.declared.status.Status.TheVariants as statuses
 use Rattle.run_steps.specs.Endings.{Outcome}
 use Rattle.run_steps.specs.Steps.{IsRefusal, OnOption, IsReading, AfterReading, IsSize, AfterSize}
-use Rattle.run_steps.specs.Trees.{FlatTree, AfterTreeFile, IsTreeFile}
+use Rattle.tree_files.specs.Trees.{FlatTree, AfterTreeFile, IsTreeFile}
 use Rattle.guest_load.specs.declared.head.ImageHead.{ImageHead}
 use Rattle.guest_load.specs.declared.places.Place.{Place}
 use Rattle.guest_load.specs.Heads.{image_head}

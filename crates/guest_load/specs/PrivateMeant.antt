@@ -1,6 +1,6 @@
 -- Only private contracts and proofs use this file: what the words and the parts that the code keeps mean.
 use Rattle.std.specs.Option.{option_copied}
-use Rattle.run_steps.specs.Trees.{flat_tree}
+use Rattle.tree_files.specs.Trees.{flat_tree}
 use Rattle.guest_load.specs.Words as words
 use Rattle.guest_load.specs.Parts as parts
 use Rattle.guest_load.specs.declared.words.Asked.{Asked}

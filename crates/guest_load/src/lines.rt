@@ -1,6 +1,6 @@
 // Messages, and the report.
-ghost use Rattle.std.specs.Prelude.{◌≡◌, ◌-◌, ◌^◌, ◌++◌, min, IfOk, OnOk};
-ghost use Rattle.guest_load.specs.Lines.{no_room_message, part_line, part_text, report, too_long_message};
+ghost use Rattle.std.specs.Prelude.{◌≡◌, ◌++◌, IfOk, OnOk};
+ghost use Rattle.guest_load.specs.Lines.{no_room_message, part_line, part_text, report};
 
 use crate::places::{LoadPart, LoadPlan, Place};
 use run_steps::make_file_message;
@@ -23,22 +23,6 @@ pub(crate) fn make_no_room_message(alloc: Global, part: LoadPart) -> Result<Byte
     ensures { IfOk result (λ message. message ≡ no_room_message part) }
 {
     make_file_message(alloc, part_text(part), b"NoRoom")
-}
-
-/// What is said about a tree of so many bytes, or of more where the number is the greatest, that is too long to be written
-/// under a name.
-pub(crate) fn make_too_long_message(
-    alloc: Global,
-    name: &str,
-    bytes: u64,
-) -> Result<Bytes, AllocError>
-    ensures { IfOk result (λ message. (length : _) → bytes ≡ min length (2 ^ 64 - 1) → message ≡ too_long_message name.now length) }
-{
-    let mut text = Bytes::new(alloc);
-    text.append(b"TreeTooLong ")?;
-    text.append_decimal(alloc, bytes)?;
-    let message = make_file_message(alloc, name, text.as_slice())?;
-    Ok(message)
 }
 
 /// Adds the line of a part.

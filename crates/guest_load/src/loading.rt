@@ -4,25 +4,24 @@ ghost use Rattle.std.specs.List.{list_all};
 ghost use Rattle.fdt_read.specs.Reservations.{is_last_pair};
 ghost use Rattle.fdt_write.specs.Flattened.{flattened, length_limit};
 ghost use Rattle.run_steps.specs.PrivateOutcomes.{outcome_of};
-ghost use Rattle.run_steps.specs.Steps.{IsWriting};
 ghost use Rattle.run_steps.specs.Stops.{IsOwnDue};
-ghost use Rattle.guest_load.specs.Job.{IsLengthRefusal, IsLoading};
-ghost use Rattle.guest_load.specs.Lines.{report};
+ghost use Rattle.tree_files.specs.Lengths.{IsLengthRefusal};
+ghost use Rattle.guest_load.specs.Job.{IsLoading};
 ghost use Rattle.guest_load.specs.LoadPlaces.{end_of, first_past, load_places};
 ghost use Rattle.guest_load.specs.Started.{started};
 ghost use Rattle.guest_load.specs.PrivateMeant.{meant_parts};
 
 use crate::head::ImageHead;
-use crate::lines::{make_no_room_message, make_report, make_too_long_message};
+use crate::lines::{make_no_room_message, make_report};
 use crate::parts::Parts;
-use crate::places::{LoadPlan, NoRoom, Place, load_plan};
+use crate::places::{NoRoom, Place, load_plan};
 use crate::started::start_tree;
 use fdt_read::Flat;
-use fdt_write::{WriteFault, write};
 use outside::Status;
-use run_steps::{Build, Output, Stop};
-use std::alloc::{AllocError, Global};
-use texts::{Bytes, List, Text};
+use run_steps::{Build, Stop};
+use std::alloc::Global;
+use texts::Bytes;
+use tree_files::{one_output, write_tree};
 
 /// The place of a ramdisk of so many bytes, where there is one; any low place where the kernel or the ramdisk has no room.
 fn place_ramdisk(bank: Place, head: ImageHead, kernel: u64, ramdisk: Option<u64>) -> Option<Place>
@@ -58,29 +57,7 @@ fn write_started(
 {
     let mut tree = flat.tree;
     start_tree(&mut tree, ramdisk)?;
-    match write(alloc, &tree, flat.reserves.as_slice(), flat.boot) {
-        Ok(bytes) => Ok(Bytes::from(bytes)),
-        Err(WriteFault::Memory) => Err(Stop::Memory),
-        Err(WriteFault::TooLong(bytes)) => Err(Stop::Because(
-            Status::Refused,
-            make_too_long_message(alloc, out, bytes)?,
-        )),
-    }
-}
-
-/// The tree and the report as they are written.
-fn one_output(alloc: Global, out: &str, bytes: Bytes, plan: &LoadPlan) -> Result<Build, AllocError>
-    ensures { IfOk result (λ build. IsWriting ((out.now, bytes) ∷ []) (report plan.now) (outcome_of build)) }
-{
-    let report = make_report(alloc, plan)?;
-    let mut name = Text::new(alloc);
-    name.append(out)?;
-    let mut outputs = List::new(alloc);
-    outputs.push(Output { name, bytes })?;
-    Ok(Build {
-        outputs,
-        report: Some(report),
-    })
+    write_tree(alloc, out, &tree, flat.reserves.as_slice(), flat.boot)
 }
 
 /// What is written for the parts of a guest.
@@ -101,6 +78,9 @@ pub(crate) fn load_parts(alloc: Global, out: &str, parts: Parts) -> Result<Build
             Status::Refused,
             make_no_room_message(alloc, part)?,
         )),
-        Ok(plan) => Ok(one_output(alloc, out, bytes, &plan)?),
+        Ok(plan) => {
+            let report = make_report(alloc, &plan)?;
+            Ok(one_output(alloc, out, bytes, Some(report))?)
+        }
     }
 }

@@ -1,9 +1,10 @@
 // The parts that a guest is started with.
 ghost use Rattle.std.specs.Prelude.{◌≡◌, ◌≤◌, ◌^◌, IfOk, IfErr, Some, Ok, length, codes};
 ghost use Rattle.std.specs.Option.{option_copied};
+ghost use Rattle.outside.specs.Reads.{Reads};
 ghost use Rattle.run_steps.specs.Steps.{IsReading, nothing};
-ghost use Rattle.run_steps.specs.Stops.{IsDue, IsOwnDue, Grew};
-ghost use Rattle.run_steps.specs.Trees.{flat_tree, IsTreeFile};
+ghost use Rattle.run_steps.specs.Stops.{StopsFor, IsOwnDue};
+ghost use Rattle.tree_files.specs.Trees.{flat_tree, IsTreeFile};
 ghost use Rattle.guest_load.specs.Banks.{first_bank};
 ghost use Rattle.guest_load.specs.Heads.{image_head};
 ghost use Rattle.guest_load.specs.LoadPlaces.{end_of};
@@ -15,8 +16,9 @@ use crate::head::{ImageHead, read_head};
 use crate::places::Place;
 use crate::words::Asked;
 use outside::{Files, Status};
-use run_steps::{Stop, TreeFile, make_file_message, measure, read_file, read_tree};
+use run_steps::{Stop, make_file_message, measure, read_file};
 use std::alloc::Global;
+use tree_files::{TreeFile, read_tree};
 
 /// The longest kernel that is read, in bytes.
 const KERNEL_LIMIT: u64 = 67_108_864;
@@ -53,9 +55,8 @@ fn read_guest<F: Files>(alloc: Global, name: &str, files: &mut F) -> Result<(Tre
     ensures tree { IfOk result (λ guest. IsTreeFile (F.held files.old) name.now (flat_tree guest.0)) }
     ensures bank { IfOk result (λ guest. first_bank guest.0.flat.tree.tree ≡ Some guest.1) }
     ensures low { IfOk result (λ guest. end_of guest.1 ≤ 2 ^ 40) }
-    ensures stopped { IfErr result (λ stop. IsDue (AfterGuest (F.held files.old) name.now nothing) (F.faults files.old, F.absents files.old, F.overlong files.old) (F.faults files.new, F.absents files.new, F.overlong files.new) stop) }
-    ensures grew { Grew (F.faults files.old, F.absents files.old, F.overlong files.old) (F.faults files.new, F.absents files.new, F.overlong files.new) }
-    ensures kept { F.held files.new ≡ F.held files.old }
+    ensures stopped { IfErr result (StopsFor F.counts files.old files.new (AfterGuest (F.held files.old) name.now nothing)) }
+    ensures only_read { Reads F.held F.counts files.old files.new }
 {
     let tree = read_tree(alloc, name, files)?;
     let bank = find_bank(alloc, name, &tree)?;
@@ -76,9 +77,8 @@ fn find_head(alloc: Global, name: &str, bytes: &[u8]) -> Result<ImageHead, Stop>
 /// The head of a kernel, and the length of its file in bytes.
 fn read_kernel<F: Files>(alloc: Global, name: &str, files: &mut F) -> Result<(ImageHead, u64), Stop>
     ensures read { IfOk result (λ kernel. (file : _) × IsReading (F.held files.old) name.now kernel_limit (Ok file) × (image_head file ≡ Some kernel.0) × (kernel.1 ≡ length file)) }
-    ensures stopped { IfErr result (λ stop. IsDue (AfterKernel (F.held files.old) name.now nothing) (F.faults files.old, F.absents files.old, F.overlong files.old) (F.faults files.new, F.absents files.new, F.overlong files.new) stop) }
-    ensures grew { Grew (F.faults files.old, F.absents files.old, F.overlong files.old) (F.faults files.new, F.absents files.new, F.overlong files.new) }
-    ensures kept { F.held files.new ≡ F.held files.old }
+    ensures stopped { IfErr result (StopsFor F.counts files.old files.new (AfterKernel (F.held files.old) name.now nothing)) }
+    ensures only_read { Reads F.held F.counts files.old files.new }
 {
     let bytes = read_file(alloc, name, KERNEL_LIMIT, files)?;
     let head = find_head(alloc, name, &bytes)?;
@@ -92,9 +92,8 @@ fn measure_ramdisk<F: Files>(
     files: &mut F,
 ) -> Result<Option<u64>, Stop>
     ensures measured { IfOk result (λ size. IsRamdisk (F.held files.old) (option_copied name.entry) size) }
-    ensures stopped { IfErr result (λ stop. IsDue (AfterRamdisk (F.held files.old) (option_copied name.entry) nothing) (F.faults files.old, F.absents files.old, F.overlong files.old) (F.faults files.new, F.absents files.new, F.overlong files.new) stop) }
-    ensures grew { Grew (F.faults files.old, F.absents files.old, F.overlong files.old) (F.faults files.new, F.absents files.new, F.overlong files.new) }
-    ensures kept { F.held files.new ≡ F.held files.old }
+    ensures stopped { IfErr result (StopsFor F.counts files.old files.new (AfterRamdisk (F.held files.old) (option_copied name.entry) nothing)) }
+    ensures only_read { Reads F.held F.counts files.old files.new }
 {
     match name {
         None => Ok(None),
@@ -113,7 +112,7 @@ pub(crate) fn read_parts<F: Files>(
 ) -> Result<Parts, Stop>
     ensures read { IfOk result (λ parts. AreParts (F.held files.old) (meant asked.now) (meant_parts parts)) }
     ensures low { IfOk result (λ parts. end_of parts.bank ≤ 2 ^ 40) }
-    ensures stopped { IfErr result (λ stop. IsDue (AfterParts (F.held files.old) (meant asked.now) nothing) (F.faults files.old, F.absents files.old, F.overlong files.old) (F.faults files.new, F.absents files.new, F.overlong files.new) stop) }
+    ensures stopped { IfErr result (StopsFor F.counts files.old files.new (AfterParts (F.held files.old) (meant asked.now) nothing)) }
     ensures kept { F.held files.new ≡ F.held files.old }
 {
     let (tree, bank) = read_guest(alloc, asked.tree, files)?;

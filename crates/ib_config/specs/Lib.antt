@@ -1,5 +1,6 @@
 pub mod FaultTexts
 pub mod Line
+pub mod PrivateGroups
 pub mod PrivateScan
 pub mod PrivateWords
 pub mod Rules

@@ -15,7 +15,7 @@ use std::marker::Model;
 use texts::Text;
 
 /// A variable: its name, and the index that it has, if any.
-#[derive(Debug, PartialEq, Eq, Hash, Drop)]
+#[derive(PartialEq, Eq, Hash, Drop)]
 pub(crate) struct Key {
     pub(crate) name: Text,
     pub(crate) index: Option<u32>,

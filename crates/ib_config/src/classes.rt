@@ -6,7 +6,7 @@ ghost use Rattle.ib_config.specs.Line.{is_letter, is_digit, is_blank, is_plain, 
 ghost use Rattle.ib_config.specs.PrivateScan.{passes};
 
 /// A class of bytes that a part of a line consists of.
-#[derive(Clone, Copy, Debug, PartialEq, Eq)]
+#[derive(Clone, Copy)]
 pub(crate) enum Class {
     Blank,
     Space,

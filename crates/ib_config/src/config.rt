@@ -13,7 +13,7 @@ use std::marker::Model;
 use texts::{BaseSize, List, Text};
 
 /// What a configuration says: each variable's value, with its default.
-#[derive(Debug, Drop)]
+#[derive(Drop)]
 pub struct Config {
     settings: Settings,
 }

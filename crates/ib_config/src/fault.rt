@@ -7,7 +7,7 @@ use texts::Text;
 
 /// Why a configuration is refused: a line at fault by its number, counted from 1, or a variable by its name and its
 /// index, which is 0 for a variable without one.
-#[derive(Debug, Drop)]
+#[derive(Drop)]
 pub enum ConfigFault {
     /// The line is no UTF-8.
     NotUtf8(u64),

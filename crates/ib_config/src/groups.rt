@@ -12,7 +12,7 @@ use std::alloc::{AllocError, Global};
 use texts::{BaseSize, List, Text};
 
 /// A memory region that guests share: its id, the host and the guest address of its first byte, and its size in bytes.
-#[derive(Debug, Drop)]
+#[derive(Drop)]
 pub struct ShmGroup {
     pub id: Text,
     pub host: u64,
@@ -21,7 +21,7 @@ pub struct ShmGroup {
 }
 
 /// An event channel of a guest: its port, the number of the peer guest, and the peer's port.
-#[derive(Clone, Copy, Debug, PartialEq, Eq)]
+#[derive(Clone, Copy, PartialEq, Eq)]
 pub struct PortGroup {
     pub port: u32,
     pub peer: u32,

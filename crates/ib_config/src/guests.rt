@@ -7,6 +7,7 @@ ghost use Rattle.ib_config.specs.Rules.{ports_of, is_linked as is_linked_to};
 ghost use Rattle.ib_config.specs.Variables as table;
 ghost use Rattle.ib_config.specs.Variables.{value_of};
 ghost use Rattle.ib_config.specs.Settings.{Gives, guest_settings, ports_at, is_static as has_static, direct_value, each};
+ghost use Rattle.ib_config.specs.PrivateGroups.{boot_of, machine_of, host_parts_of};
 ghost use Rattle.ib_config.specs.PrivateScan.{held, linked_in};
 
 use crate::assignments::Assignments;
@@ -19,7 +20,7 @@ use std::alloc::{AllocError, Global};
 use texts::{BaseSize, List, Text};
 
 /// What a configuration says of one guest.
-#[derive(Debug, Drop)]
+#[derive(Drop)]
 pub(crate) struct Guest {
     pub(crate) kernel: Text,
     pub(crate) ramdisk: Option<Text>,
@@ -32,6 +33,30 @@ pub(crate) struct Guest {
     pub(crate) passthrough_dtb: Option<Text>,
     pub(crate) shared_mem: List<ShmGroup>,
     pub(crate) evtchns: List<PortGroup>,
+}
+
+/// What a guest boots.
+#[derive(Drop)]
+pub(crate) struct Boot {
+    pub(crate) kernel: Text,
+    pub(crate) ramdisk: Option<Text>,
+    pub(crate) cmd: Option<Text>,
+}
+
+/// The memory of a guest in MiB, its processors, and whether it has a virtual PL011.
+#[derive(Clone, Copy)]
+pub(crate) struct Machine {
+    pub(crate) mem_mib: Option<u64>,
+    pub(crate) vcpus: u32,
+    pub(crate) vpl011: bool,
+}
+
+/// What a guest is given of the host.
+#[derive(Drop)]
+pub(crate) struct HostParts {
+    pub(crate) static_mem: List<BaseSize>,
+    pub(crate) direct_map: bool,
+    pub(crate) passthrough_dtb: Option<Text>,
 }
 
 /// Whether a guest has static memory: its variable is assigned.
@@ -219,8 +244,54 @@ fn mem_mib(alloc: Global, assigned: &Assignments, guest: u32) -> Result<Option<u
     }
 }
 
+/// What a guest boots.
+fn read_boot(alloc: Global, assigned: &Assignments, guest: u32) -> Result<Boot, ConfigFault>
+    ensures { Gives (λ x. x) result (boot_of (held assigned.now) guest) }
+{
+    let index = Some(guest);
+    let kernel = required_file(alloc, assigned, "DOMU_KERNEL", index)?;
+    let ramdisk = optional_file(alloc, assigned, "DOMU_RAMDISK", index)?;
+    let cmd = optional_text(alloc, assigned, "DOMU_CMD", index)?;
+    Ok(Boot {
+        kernel,
+        ramdisk,
+        cmd,
+    })
+}
+
+/// The memory of a guest, its processors and its console.
+fn read_machine(alloc: Global, assigned: &Assignments, guest: u32) -> Result<Machine, ConfigFault>
+    ensures { Gives (λ x. x) result (machine_of (held assigned.now) guest) }
+{
+    let mem_mib = mem_mib(alloc, assigned, guest)?;
+    let vcpus = vcpus(alloc, assigned, guest)?;
+    let vpl011 = flag_or_set(alloc, assigned, "DOMU_VPL011", Some(guest))?;
+    Ok(Machine {
+        mem_mib,
+        vcpus,
+        vpl011,
+    })
+}
+
+/// What a guest is given of the host.
+fn read_host_parts(
+    alloc: Global,
+    assigned: &Assignments,
+    guest: u32,
+) -> Result<HostParts, ConfigFault>
+    ensures { Gives (λ x. x) result (host_parts_of (held assigned.now) guest) }
+{
+    let static_mem = static_mem(alloc, assigned, guest)?;
+    let direct_map = direct_map(alloc, assigned, guest)?;
+    let passthrough_dtb = optional_file(alloc, assigned, "DOMU_PASSTHROUGH_DTB", Some(guest))?;
+    Ok(HostParts {
+        static_mem,
+        direct_map,
+        passthrough_dtb,
+    })
+}
+
 /// The variables of a guest, of so many guests, in the order in which they are tested.
-#[tactic(auto, unfolding(crate::specs::Settings::guest_settings))]
 fn read_guest(
     alloc: Global,
     assigned: &Assignments,
@@ -231,28 +302,21 @@ fn read_guest(
     requires { ports.now ≡ map (ports_at (held assigned.now)) (numbers 0 count) }
     ensures { Gives (λ x. x) result (guest_settings (held assigned.now) count guest) }
 {
-    let index = Some(guest);
-    let kernel = required_file(alloc, assigned, "DOMU_KERNEL", index)?;
-    let ramdisk = optional_file(alloc, assigned, "DOMU_RAMDISK", index)?;
-    let cmd = optional_text(alloc, assigned, "DOMU_CMD", index)?;
-    let mem_mib = mem_mib(alloc, assigned, guest)?;
-    let vcpus = vcpus(alloc, assigned, guest)?;
-    let vpl011 = flag_or_set(alloc, assigned, "DOMU_VPL011", index)?;
-    let static_mem = static_mem(alloc, assigned, guest)?;
-    let direct_map = direct_map(alloc, assigned, guest)?;
-    let passthrough_dtb = optional_file(alloc, assigned, "DOMU_PASSTHROUGH_DTB", index)?;
+    let boot = read_boot(alloc, assigned, guest)?;
+    let machine = read_machine(alloc, assigned, guest)?;
+    let parts = read_host_parts(alloc, assigned, guest)?;
     let shared_mem = shared_mem(alloc, assigned, guest)?;
     let evtchns = event_channels(alloc, assigned, ports, count, guest)?;
     Ok(Guest {
-        kernel,
-        ramdisk,
-        cmd,
-        mem_mib,
-        vcpus,
-        vpl011,
-        static_mem,
-        direct_map,
-        passthrough_dtb,
+        kernel: boot.kernel,
+        ramdisk: boot.ramdisk,
+        cmd: boot.cmd,
+        mem_mib: machine.mem_mib,
+        vcpus: machine.vcpus,
+        vpl011: machine.vpl011,
+        static_mem: parts.static_mem,
+        direct_map: parts.direct_map,
+        passthrough_dtb: parts.passthrough_dtb,
         shared_mem,
         evtchns,
     })

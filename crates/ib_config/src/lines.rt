@@ -12,10 +12,11 @@ ghost use Rattle.ib_config.specs.PrivateScan.{passes, line_read, part_read, body
 
 use crate::classes::{Class, is_bare_byte, is_letter_byte, is_plain_byte, split_run};
 use crate::fault::ConfigFault;
+use crate::names::is_listed;
 use std::str;
 
 /// What a line assigns.
-#[derive(Clone, Copy, Debug)]
+#[derive(Clone, Copy)]
 pub(crate) struct Found<'a> {
     pub(crate) name: &'a str,
     pub(crate) index: Option<u32>,
@@ -199,22 +200,28 @@ fn index_in(number: u64, after: &[u8]) -> Result<(Option<u32>, &[u8]), ConfigFau
     Ok((Some(index_value(digits)), skip_one(skip_one(rest))))
 }
 
+/// Whether a name is one of ImageBuilder's that have no effect here and are refused.
 #[tactic(auto, unfolding(crate::specs::Line::is_unsupported))]
 fn is_refused_name(name: &[u8]) -> bool
     ensures { result ≡ is_unsupported name.now }
 {
-    name == b"XEN_COLORS".as_slice()
-        || name == b"DOM0_COLORS".as_slice()
-        || name == b"DOMU_COLORS".as_slice()
-        || name == b"NUM_CPUPOOLS".as_slice()
-        || name == b"CPUPOOL".as_slice()
-        || name == b"DOMU_CPUPOOL".as_slice()
-        || name == b"STATIC_HEAP".as_slice()
-        || name == b"NUM_DT_OVERLAY".as_slice()
-        || name == b"DT_OVERLAY".as_slice()
-        || name == b"DOM0_ROOTFS".as_slice()
-        || name == b"DOMU_ROOTFS".as_slice()
-        || name == b"DOMU_PASSTHROUGH_PATHS".as_slice()
+    is_listed(
+        &[
+            "XEN_COLORS",
+            "DOM0_COLORS",
+            "DOMU_COLORS",
+            "NUM_CPUPOOLS",
+            "CPUPOOL",
+            "DOMU_CPUPOOL",
+            "STATIC_HEAP",
+            "NUM_DT_OVERLAY",
+            "DT_OVERLAY",
+            "DOM0_ROOTFS",
+            "DOMU_ROOTFS",
+            "DOMU_PASSTHROUGH_PATHS",
+        ],
+        name,
+    )
 }
 
 /// What a line that says something assigns, without its leading blanks.

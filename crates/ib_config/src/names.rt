@@ -1,11 +1,18 @@
-// The name on a line of a file.
-ghost use Rattle.std.specs.Prelude.{◌≡◌, ◌==◌, ◌-◌, slice_get, option_map};
-ghost use Rattle.std.specs.List.{slice_split};
+// Names: whether one stands in a list, and the name on a line of a file.
+ghost use Rattle.std.specs.Prelude.{◌≡◌, ◌==◌, ◌-◌, bytes_eq, slice_get, option_map};
+ghost use Rattle.std.specs.List.{list_any, slice_split};
 ghost use Rattle.ib_config.specs.FaultTexts.{name_on_line as the_name_on_line};
 ghost use Rattle.ib_config.specs.Line.{body_of, name_of};
 
 use crate::assignments::without_return;
 use crate::classes::{Class, split_run};
+
+/// Whether a name stands in a list of names.
+pub(crate) fn is_listed(names: &[&str], name: &[u8]) -> bool
+    ensures { result ≡ list_any (λ other. bytes_eq name.now other.now) names.now }
+{
+    names.iter().any(|other| name == other.as_bytes())
+}
 
 /// A part between line feeds, the first being 0.
 fn part(bytes: &[u8], place: usize) -> Option<&[u8]>

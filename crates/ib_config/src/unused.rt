@@ -5,6 +5,7 @@ ghost use Rattle.ib_config.specs.PrivateScan.{held};
 
 use crate::assignments::{Assignments, Key, copy_text};
 use crate::guests::is_static;
+use crate::names::is_listed;
 use std::alloc::{AllocError, Global};
 use texts::{List, Text};
 
@@ -13,15 +14,20 @@ use texts::{List, Text};
 fn is_common(name: &str) -> bool
     ensures { result ≡ is_one_of common_names name.now }
 {
-    name == "MEMORY_START"
-        || name == "MEMORY_END"
-        || name == "DEVICE_TREE"
-        || name == "XEN"
-        || name == "XEN_CMD"
-        || name == "DOM0_KERNEL"
-        || name == "DOM0_RAMDISK"
-        || name == "DOM0_CMD"
-        || name == "NUM_DOMUS"
+    is_listed(
+        &[
+            "MEMORY_START",
+            "MEMORY_END",
+            "DEVICE_TREE",
+            "XEN",
+            "XEN_CMD",
+            "DOM0_KERNEL",
+            "DOM0_RAMDISK",
+            "DOM0_CMD",
+            "NUM_DOMUS",
+        ],
+        name.as_bytes(),
+    )
 }
 
 /// Whether a name is a variable of each guest.
@@ -29,16 +35,21 @@ fn is_common(name: &str) -> bool
 fn is_of_guest(name: &str) -> bool
     ensures { result ≡ is_one_of guest_names name.now }
 {
-    name == "DOMU_KERNEL"
-        || name == "DOMU_RAMDISK"
-        || name == "DOMU_CMD"
-        || name == "DOMU_MEM"
-        || name == "DOMU_VCPUS"
-        || name == "DOMU_VPL011"
-        || name == "DOMU_STATIC_MEM"
-        || name == "DOMU_PASSTHROUGH_DTB"
-        || name == "DOMU_SHARED_MEM"
-        || name == "DOMU_EVTCHNS"
+    is_listed(
+        &[
+            "DOMU_KERNEL",
+            "DOMU_RAMDISK",
+            "DOMU_CMD",
+            "DOMU_MEM",
+            "DOMU_VCPUS",
+            "DOMU_VPL011",
+            "DOMU_STATIC_MEM",
+            "DOMU_PASSTHROUGH_DTB",
+            "DOMU_SHARED_MEM",
+            "DOMU_EVTCHNS",
+        ],
+        name.as_bytes(),
+    )
 }
 
 /// Whether a name is tested of a guest, of so many guests.

@@ -28,3 +28,18 @@ fn shared_name_is_written_once(rt: HostRuntime) -> Result<(), Fail> {
     assert_eq!(rt; bytes.as_slice(), SHARED_NAME.as_slice());
     Ok(())
 }
+
+/// A root without a name, properties or nodes, and nothing else: a header, the end of the reservations, and four words.
+const ROOT_ALONE: [u8; 72] = [
+    0xd0, 0x0d, 0xfe, 0xed, 0, 0, 0, 0x48, 0, 0, 0, 0x38, 0, 0, 0, 0x48, 0, 0, 0, 0x28, 0, 0, 0,
+    0x11, 0, 0, 0, 0x10, 0, 0, 0, 0, 0, 0, 0, 0, 0, 0, 0, 0x10, 0, 0, 0, 0, 0, 0, 0, 0, 0, 0, 0, 0,
+    0, 0, 0, 0, 0, 0, 0, 1, 0, 0, 0, 0, 0, 0, 0, 2, 0, 0, 0, 9,
+];
+
+#[test]
+fn root_alone_has_72_bytes(rt: HostRuntime) -> Result<(), Fail> {
+    let tree = Tree::new(rt.alloc())?;
+    let bytes = write(rt.alloc(), &tree, &[], 0)?;
+    assert_eq!(rt; bytes.as_slice(), ROOT_ALONE.as_slice());
+    Ok(())
+}

@@ -2,6 +2,7 @@
 use Rattle.std.specs.Prelude.{ℕ, ◌==◌, ◌/◌, Bool, List, [], ◌∷◌, length, take, Option, Some, None}
 use Rattle.std.specs.List.{list_any}
 use Rattle.outside.specs.Outside.{File}
+use Rattle.outside.specs.Reads.{Counts}
 
 -- the number stands in the list
 abbrev pub is_listed : List ℕ → ℕ → Bool
@@ -15,6 +16,18 @@ pub record HeldFiles : Type 0 where
   pub faults : ℕ
   pub absents : ℕ
   pub overlong : ℕ
+
+-- all files are told
+abbrev pub told_files : HeldFiles → Option (List File)
+told_files held = Some held.files
+
+-- the three counts
+abbrev pub file_counts : HeldFiles → Counts
+file_counts held = record { failed = held.faults; absent = held.absents; overlong = held.overlong }
+
+-- the three counts of files none of whose calls fails
+abbrev pub sure_counts : HeldFiles → Counts
+sure_counts held = record { failed = 0; absent = held.absents; overlong = held.overlong }
 
 -- outputs in memory, and the room that is left: of files, and of bytes of names and contents
 pub record TakenFiles : Type 0 where

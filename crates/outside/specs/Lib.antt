@@ -1,4 +1,5 @@
 pub mod Fakes
 pub mod Outside
 pub mod Places
+pub mod Reads
 pub mod Statuses

@@ -1,5 +1,5 @@
 -- What files, outputs and streams are: what they hold or took, where that is told, and counts that never fall.
-use Rattle.std.specs.Prelude.{◌≡◌, ℕ, ◌+◌, ◌-◌, ◌^◌, ◌≤◌, min, ◌⊎◌, ◌&&◌, Bool, if◌then◌else◌, nat_le, ⊤, bytes_eq, List, [], ◌∷◌, ◌++◌, length, take, find, Option, Some, None, option_map, Result, Ok, Err, Vec, IfSome}
+use Rattle.std.specs.Prelude.{◌≡◌, ℕ, ◌+◌, ◌-◌, ◌^◌, ◌≤◌, min, ◌⊎◌, ◌&&◌, Bool, if◌then◌else◌, nat_le, ⊤, bytes_eq, List, [], ◌∷◌, ◌++◌, length, take, find, Option, Some, None, option_map, Result, Ok, Err, Vec}
 use Rattle.std.specs.declared.alloc.Global.{Global}
 use Rattle.outside.specs.declared.files.FileError.{FileError}
 use Rattle.outside.specs.declared.files.FileError.TheVariants as read_errors

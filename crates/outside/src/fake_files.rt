@@ -1,7 +1,8 @@
 // Files in memory, for tests.
 ghost use Rattle.std.specs.Prelude.{◌≡◌, ◌≤◌, ◌↔◌, ◌∷◌, ◌++◌, [], Some, IfSome, IfOk, length, IsTrue, IsErrOf, OnOk, OnErr, option_copied, if◌then◌else◌};
 ghost use Rattle.outside.specs.Outside.{Rose, one_more, bytes_of, reading, ReadGives, SizeGives};
-ghost use Rattle.outside.specs.Fakes.{is_listed};
+ghost use Rattle.outside.specs.Reads.{Reads};
+ghost use Rattle.outside.specs.Fakes.{is_listed, told_files, file_counts};
 
 use crate::{FileError, Files, SizeError};
 use std::alloc::{AllocError, Global};
@@ -94,13 +95,9 @@ impl MemFiles {
 }
 
 impl Files for MemFiles {
-    ghost held = { λ m. Some m.files };
+    ghost held = { told_files };
 
-    ghost faults = { λ m. m.faults };
-
-    ghost absents = { λ m. m.absents };
-
-    ghost overlong = { λ m. m.overlong };
+    ghost counts = { file_counts };
 
     fn read(&mut self, alloc: Global, name: &str, limit: u64) -> Result<Vec<u8>, FileError>
         ensures told { ReadGives (reading self.old.files name.now limit) result }
@@ -109,9 +106,7 @@ impl Files for MemFiles {
         ensures failed { IsErrOf result FileError.Failed → Rose self.old.faults self.new.faults }
         ensures absent { IsErrOf result FileError.Absent → Rose self.old.absents self.new.absents }
         ensures longer { IsErrOf result FileError.Longer → Rose self.old.overlong self.new.overlong }
-        ensures faults { self.old.faults ≤ self.new.faults }
-        ensures absents { self.old.absents ≤ self.new.absents }
-        ensures overlong { self.old.overlong ≤ self.new.overlong }
+        ensures only_read { Reads told_files file_counts self.old self.new }
 
         // The call fails exactly where its number was added.
         ensures fails { IsErrOf result FileError.Failed ↔ IsTrue (is_listed self.old.failing self.old.calls) }
@@ -141,9 +136,7 @@ impl Files for MemFiles {
         ensures kept { self.new.files ≡ self.old.files }
         ensures failed { IsErrOf result SizeError.Failed → Rose self.old.faults self.new.faults }
         ensures absent { IsErrOf result SizeError.Absent → Rose self.old.absents self.new.absents }
-        ensures faults { self.old.faults ≤ self.new.faults }
-        ensures absents { self.old.absents ≤ self.new.absents }
-        ensures overlong { self.old.overlong ≤ self.new.overlong }
+        ensures only_read { Reads told_files file_counts self.old self.new }
 
         // The call fails exactly where its number was added.
         ensures fails { IsErrOf result SizeError.Failed ↔ IsTrue (is_listed self.old.failing self.old.calls) }

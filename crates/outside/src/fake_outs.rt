@@ -142,6 +142,12 @@ impl Outs for MemOuts {
         ensures no_room { OnErr result (IsTrue (not (is_listed self.old.failing self.old.calls)) → self.new.written ≡ self.old.written) }
         ensures calls { self.new.calls ≡ one_more self.old.calls }
         ensures failing { self.new.failing ≡ self.old.failing }
+
+        // The room that is left, whether calls are to fail or not.
+        ensures left { OnOk result (self.new.room ≡ less_file self.old.room name.now bytes.now) }
+        ensures half_left { IsTrue (is_listed self.old.failing self.old.calls) → IsTrue (fits_file self.old.room name.now (first_half bytes.now)) → self.new.room ≡ less_file self.old.room name.now (first_half bytes.now) }
+        ensures none_left { IsTrue (is_listed self.old.failing self.old.calls) → IsTrue (not (fits_file self.old.room name.now (first_half bytes.now))) → self.new.room ≡ self.old.room }
+        ensures no_room_left { OnErr result (IsTrue (not (is_listed self.old.failing self.old.calls)) → self.new.room ≡ self.old.room) }
     {
         if self.starts_failing_call() {
             self.count_fault();

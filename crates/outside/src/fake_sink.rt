@@ -128,6 +128,12 @@ impl Sink for MemSink {
         ensures no_room { OnErr result (IsTrue (not (is_listed self.old.failing self.old.calls)) → self.new.bytes ≡ self.old.bytes) }
         ensures calls { self.new.calls ≡ one_more self.old.calls }
         ensures failing { self.new.failing ≡ self.old.failing }
+
+        // The room that is left, whether calls are to fail or not.
+        ensures left { OnOk result (self.new.room ≡ self.old.room - length bytes.now) }
+        ensures half_left { IsTrue (is_listed self.old.failing self.old.calls) → length (first_half bytes.now) ≤ self.old.room → self.new.room ≡ self.old.room - length (first_half bytes.now) }
+        ensures none_left { IsTrue (is_listed self.old.failing self.old.calls) → IsTrue (not (nat_le (length (first_half bytes.now)) self.old.room)) → self.new.room ≡ self.old.room }
+        ensures no_room_left { OnErr result (IsTrue (not (is_listed self.old.failing self.old.calls)) → self.new.room ≡ self.old.room) }
     {
         if self.starts_failing_call() {
             self.count_fault();

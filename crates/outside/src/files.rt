@@ -1,7 +1,8 @@
 // Files that a program reads.
-ghost use Rattle.std.specs.Prelude.{◌≡◌, ◌≤◌, ℕ, List, Option, IfSome, IfOk, IsErrOf, length};
+ghost use Rattle.std.specs.Prelude.{◌≡◌, ◌≤◌, List, Option, IfSome, IfOk, IsErrOf, length};
 ghost use Rattle.outside.specs.declared.files.FileError.TheVariants.{Memory};
 ghost use Rattle.outside.specs.Outside.{File, Rose, bytes_of, reading, ReadGives, SizeGives};
+ghost use Rattle.outside.specs.Reads.{Counts, Reads};
 
 use std::alloc::{AllocError, AllocFailed, Global};
 
@@ -49,34 +50,22 @@ pub trait Files {
     /// The files that are held, where they are told.
     ghost held: { Self → Option (List File) };
 
-    /// How often a call failed.
-    ghost faults: { Self → ℕ };
-
-    /// How often a call met a name that is not held.
-    ghost absents: { Self → ℕ };
-
-    /// How often a read met a file that is longer than its limit.
-    ghost overlong: { Self → ℕ };
+    /// How often a call failed, met a name that is not held, and met a file that is longer than its limit.
+    ghost counts: { Self → Counts };
 
     /// The bytes of a file that has at most `limit` of them.
     fn read(&mut self, alloc: Global, name: &str, limit: u64) -> Result<Vec<u8>, FileError>
         ensures told { IfSome (held self.old) (λ files. ReadGives (reading files name.now limit) result) }
         ensures limit { IfOk result (λ bytes. length bytes.items ≤ limit) }
-        ensures kept { held self.new ≡ held self.old }
-        ensures failed { IsErrOf result FileError.Failed → Rose (faults self.old) (faults self.new) }
-        ensures absent { IsErrOf result FileError.Absent → Rose (absents self.old) (absents self.new) }
-        ensures longer { IsErrOf result FileError.Longer → Rose (overlong self.old) (overlong self.new) }
-        ensures faults { faults self.old ≤ faults self.new }
-        ensures absents { absents self.old ≤ absents self.new }
-        ensures overlong { overlong self.old ≤ overlong self.new };
+        ensures failed { IsErrOf result FileError.Failed → Rose (counts self.old).failed (counts self.new).failed }
+        ensures absent { IsErrOf result FileError.Absent → Rose (counts self.old).absent (counts self.new).absent }
+        ensures longer { IsErrOf result FileError.Longer → Rose (counts self.old).overlong (counts self.new).overlong }
+        ensures only_read { Reads held counts self.old self.new };
 
     /// How many bytes a file has.
     fn size(&mut self, name: &str) -> Result<u64, SizeError>
         ensures told { IfSome (held self.old) (λ files. SizeGives (bytes_of files name.now) result) }
-        ensures kept { held self.new ≡ held self.old }
-        ensures failed { IsErrOf result SizeError.Failed → Rose (faults self.old) (faults self.new) }
-        ensures absent { IsErrOf result SizeError.Absent → Rose (absents self.old) (absents self.new) }
-        ensures faults { faults self.old ≤ faults self.new }
-        ensures absents { absents self.old ≤ absents self.new }
-        ensures overlong { overlong self.old ≤ overlong self.new };
+        ensures failed { IsErrOf result SizeError.Failed → Rose (counts self.old).failed (counts self.new).failed }
+        ensures absent { IsErrOf result SizeError.Absent → Rose (counts self.old).absent (counts self.new).absent }
+        ensures only_read { Reads held counts self.old self.new };
 }

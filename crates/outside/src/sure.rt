@@ -1,6 +1,7 @@
 // Files that never fail, and outputs and a stream that take all and keep nothing.
 ghost use Rattle.std.specs.Prelude.{◌≡◌, ◌≤◌, [], None, Some, IsErrOf};
 ghost use Rattle.outside.specs.Outside.{Rose, reading, bytes_of, ReadGives, SizeGives};
+ghost use Rattle.outside.specs.Fakes.{told_files, sure_counts};
 
 use crate::{Failed, FileError, Files, MemFiles, Outs, Sink, SizeError};
 use std::alloc::Global;
@@ -34,13 +35,9 @@ impl SureFiles {
 }
 
 impl Files for SureFiles {
-    ghost held = { λ s. Some s.files };
+    ghost held = { told_files };
 
-    ghost faults = { λ s. 0 };
-
-    ghost absents = { λ s. s.absents };
-
-    ghost overlong = { λ s. s.overlong };
+    ghost counts = { sure_counts };
 
     fn read(&mut self, alloc: Global, name: &str, limit: u64) -> Result<Vec<u8>, FileError> {
         match self.inner.read(alloc, name, limit) {

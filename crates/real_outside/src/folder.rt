@@ -13,6 +13,7 @@ use std::rt::Files;
 #[derive(Drop)]
 pub struct Folder<'a, R> {
     rt: &'a R,
+    has_input: bool,
     faults: u64,
     absents: u64,
     overlong: u64,
@@ -33,6 +34,20 @@ impl<'a, R: Files> Folder<'a, R> {
     {
         Folder {
             rt,
+            has_input: false,
+            faults: 0,
+            absents: 0,
+            overlong: 0,
+        }
+    }
+
+    /// The file system, in which the file of the name `-` is standard input, with no failure yet.
+    pub fn with_input(rt: &'a R) -> Folder<'a, R>
+        ensures { result ≡ record { faults = 0; absents = 0; overlong = 0 } }
+    {
+        Folder {
+            rt,
+            has_input: true,
             faults: 0,
             absents: 0,
             overlong: 0,
@@ -73,22 +88,29 @@ fn read_within<F: Read>(alloc: Global, file: &mut F, limit: u64) -> Result<Vec<u
     Err(FileError::Failed)
 }
 
-impl<R: Files> outside::Files for Folder<'_, R> {
+/// All the bytes of the file of a path, at most `limit`.
+fn read_path<R: Files>(rt: &R, alloc: Global, path: &str, limit: u64) -> Result<Vec<u8>, FileError>
+    ensures { IfOk result (λ bytes. length bytes.items ≤ limit) }
+{
+    match fs::open(rt, path) {
+        Ok(mut file) => read_within(alloc, &mut file, limit),
+        Err(e) => match missed(e.kind()) {
+            SizeError::Absent => Err(FileError::Absent),
+            SizeError::Failed => Err(FileError::Failed),
+        },
+    }
+}
+
+impl<R: Files + Input> outside::Files for Folder<'_, R> {
     ghost held = { λ _. None };
 
-    ghost faults = { λ folder. folder.faults };
-
-    ghost absents = { λ folder. folder.absents };
-
-    ghost overlong = { λ folder. folder.overlong };
+    ghost counts = { λ folder. record { failed = folder.faults; absent = folder.absents; overlong = folder.overlong } };
 
     fn read(&mut self, alloc: Global, name: &str, limit: u64) -> Result<Vec<u8>, FileError> {
-        let result = match fs::open(self.rt, name) {
-            Ok(mut file) => read_within(alloc, &mut file, limit),
-            Err(e) => match missed(e.kind()) {
-                SizeError::Absent => Err(FileError::Absent),
-                SizeError::Failed => Err(FileError::Failed),
-            },
+        let result = if self.has_input && name == "-" {
+            read_within(alloc, &mut self.rt.reader(), limit)
+        } else {
+            read_path(self.rt, alloc, name, limit)
         };
         match result {
             Err(FileError::Failed) => self.faults = self.faults.saturating_add(1),
@@ -114,7 +136,7 @@ impl<R: Files> outside::Files for Folder<'_, R> {
     }
 }
 
-impl<R: Files + AllocGlobal> Outs for Folder<'_, R> {
+impl<R: Files> Outs for Folder<'_, R> {
     ghost written = { λ _. None };
 
     ghost room = { λ _. None };
@@ -122,7 +144,7 @@ impl<R: Files + AllocGlobal> Outs for Folder<'_, R> {
     ghost faults = { λ folder. folder.faults };
 
     fn write(&mut self, name: &str, bytes: &[u8]) -> Result<(), Failed> {
-        if write_whole(self.rt, self.rt.alloc(), name, bytes) {
+        if write_whole(self.rt, name, bytes) {
             return Ok(());
         }
         self.faults = self.faults.saturating_add(1);

@@ -1,4 +1,4 @@
--- Which statuses the steps that read files never refuse with: reading and measuring files, and reading a tree, refuse with the statuses of reading files alone.
+-- Which statuses the steps that read files never refuse with: reading and measuring files refuse with the statuses of reading files alone.
 use Rattle.std.proofs.Common.{◌≡◌, ℕ, List, inl, inr, codes}
 use Rattle.std.specs.Prelude.{Option, Some, None, Result, Ok, Err}
 use Rattle.outside.specs.Outside.{File}
@@ -8,10 +8,9 @@ use Rattle.outside.specs.declared.status.Status.{Status}
 use Rattle.outside.specs.declared.status.Status.TheVariants as statuses
 use Rattle.run_steps.specs.Endings.{Refuses}
 use Rattle.run_steps.specs.Messages.{file_message}
-use Rattle.run_steps.specs.Steps.{IsRefusal, IsReading, IsReadRefusal, IsSize, OnResult, OnOption, AfterReading, AfterSize, AfterSizes, nothing}
-use Rattle.run_steps.specs.Trees.{tree_limit, AfterTree, AfterTreeFile}
-use Rattle.run_steps.proofs.Step.{Next, Avoids, both_avoid, each_avoids}
-use Rattle.run_steps.proofs.ReadingSteps.{reading_step, size_step}
+use Rattle.run_steps.specs.Steps.{IsRefusal, IsReadRefusal, IsSize, OnResult, OnOption, AfterReading, AfterSize, AfterSizes, nothing}
+use Rattle.run_steps.proofs.Step.{Next, Avoids, each_avoids}
+use Rattle.run_steps.proofs.ReadingSteps.{size_step}
 
 -- the status is none of those that reading files refuses with
 pub record IsOfNoFile (status : Status) : Type 0 where
@@ -38,7 +37,8 @@ module _ (status : Status) (other : IsOfNoFile status) where
   reading_avoids_in name limit (Err read_errors.Memory) message p = p
 
   pub reading_avoids : (told : Option (List File)) (name : List ℕ) (limit : ℕ) → Avoids status (AfterReading told name limit)
-  reading_avoids told name limit message p = reading_avoids_in name limit p.0 message p.2
+  reading_avoids told name limit message (inl fails) = cc
+  reading_avoids told name limit message (inr p) = reading_avoids_in name limit p.0 message p.2
 
   -- measuring files
   size_avoids_in : (name : List ℕ) (size : Option ℕ) (message : List ℕ) → OnOption (IsRefusal statuses.Read (file_message name (codes "not found"))) nothing size (Refuses status message) → ⊥
@@ -46,16 +46,8 @@ module _ (status : Status) (other : IsOfNoFile status) where
   size_avoids_in name None message p = other.read p.0
 
   pub size_avoids : (told : Option (List File)) (name : List ℕ) → Avoids status (AfterSize told name)
-  size_avoids told name message p = size_avoids_in name p.0 message p.2
+  size_avoids told name message (inl fails) = cc
+  size_avoids told name message (inr p) = size_avoids_in name p.0 message p.2
 
   pub sizes_avoid : (told : Option (List File)) (names : List (List ℕ)) → Avoids status (AfterSizes told names)
   sizes_avoid told names = each_avoids (λ name size. IsSize told name (Some size)) (AfterSize told) (size_step told) status (size_avoids told) names
-
-  -- reading a tree
-  pub flattened_avoids : (name bytes : List ℕ) → Avoids status (AfterTree name bytes)
-  flattened_avoids name bytes message (inl refused) = other.format refused.2.0
-  flattened_avoids name bytes message (inr spelled) = spelled.2
-
-  pub tree_avoids : (told : Option (List File)) (name : List ℕ) → Avoids status (AfterTreeFile told name)
-  tree_avoids told name =
-      both_avoid (λ bytes. IsReading told name tree_limit (Ok bytes)) status (AfterReading told name tree_limit) (AfterTree name) (reading_step told name tree_limit) (reading_avoids told name tree_limit) (flattened_avoids name)

@@ -4,16 +4,21 @@ use Rattle.std.specs.Prelude.{Result, Ok, Err, IfOk, IfErr}
 use Rattle.outside.specs.Outside.{Rose}
 use Rattle.outside.specs.declared.status.Status.{Status}
 use Rattle.outside.specs.declared.status.Status.TheVariants as statuses
+use Rattle.outside.specs.Reads.{Counts, Grew}
 use Rattle.run_steps.specs.declared.stop.Stop.{Stop}
 use Rattle.run_steps.specs.declared.stop.Stop.TheVariants.{Memory, Because}
 use Rattle.run_steps.specs.Endings.{Outcome}
 use Rattle.run_steps.specs.PrivateOutcomes.{outcome_of}
 use Rattle.run_steps.specs.declared.output.Build.{Build}
-use Rattle.run_steps.specs.Stops.{Counts, Grew, IsCause, IsDue, IsOwnCause, IsOwnDue}
+use Rattle.run_steps.specs.Stops.{IsCause, IsDue, IsOwnCause, IsOwnDue}
 
 -- a count that rose later rose
 pub rose_later : (old mid new : ℕ) → old ≤ mid → Rose mid new → Rose old new
 rose_later old mid new grew rose = grind (arith)
+
+-- a count that is 0 always does not rise
+pub never_rises : Rose 0 0 → ⊥
+never_rises rose = absurd (omega arith)
 
 -- counts that grew twice grew
 pub grew_twice : (old mid new : Counts) → Grew old mid → Grew mid new → Grew old new
@@ -25,7 +30,7 @@ module _ (job other : Outcome → Type 0) (implied : (outcome : Outcome) → job
     cause_later : (status : Status) (message : List ℕ) → IsCause job mid new status message → IsCause other old new status message
     cause_later statuses.Refused message cause = implied _ cause
     cause_later statuses.Format message cause = implied _ cause
-    cause_later statuses.Read message (inl failed) = inl (rose_later _ _ _ grew.0 failed.0, failed.1)
+    cause_later statuses.Read message (inl failed) = inl (rose_later _ _ _ grew.0 failed.0, (failed.1.0, failed.1.1, implied _ failed.1.2))
     cause_later statuses.Read message (inr absent) = inr (rose_later _ _ _ grew.1 absent.0, implied _ absent.1)
     cause_later statuses.Longer message cause = (rose_later _ _ _ grew.2 cause.0, implied _ cause.1)
     cause_later statuses.Built message cause = elim cause [ ]

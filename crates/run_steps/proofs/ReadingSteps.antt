@@ -1,16 +1,16 @@
--- Reading and measuring files, and reading a tree, are steps.
+-- Reading and measuring files are steps.
 use Rattle.std.proofs.Common.{◌≡◌, ◌∙◌, ◌+◌, ◌<◌, refl, sym, ap, subst, List, [], ◌∷◌, ◌++◌, inl, inr, codes, length, map, take, drop, get_or}
 use Rattle.std.proofs.lemmas.List.{take_more, take-append-drop, drop_more, map-append}
-use Rattle.std.specs.Prelude.{ℕ, ◌⊎◌, Option, Some, None, Result, Ok, Err}
+use Rattle.std.specs.Prelude.{ℕ, Option, Some, None, Result, Ok, Err}
 use Rattle.outside.specs.Outside.{File}
 use Rattle.outside.specs.declared.files.FileError.{FileError}
 use Rattle.outside.specs.declared.files.FileError.TheVariants as read_errors
+use Rattle.outside.specs.declared.status.Status.{Status}
 use Rattle.outside.specs.declared.status.Status.TheVariants as statuses
 use Rattle.run_steps.specs.Messages.{file_message}
-use Rattle.run_steps.specs.Endings.{Outcome, Refuses, Builds}
+use Rattle.run_steps.specs.Endings.{Outcome, Refuses, Builds, Finds}
 use Rattle.run_steps.specs.Steps.{IsRefusal, IsReading, IsReadRefusal, OnResult, OnOption, AfterReading, IsSize, AfterSize, AfterSizes, AreSizes, nothing}
-use Rattle.run_steps.specs.Trees.{tree_limit, FlatTree, IsFlattened, AfterTree, AfterTreeFile, IsTreeFile}
-use Rattle.run_steps.proofs.Step.{Next, IsStep, Avoids, and_then, said_as, on_result_step, on_option_step, asked_step, each_step, both_avoid, each_avoids, each_refuses, give_more}
+use Rattle.run_steps.proofs.Step.{IsStep, Avoids, said_as, on_result_step, on_option_step, asked_step, may_fail_step, each_step, each_avoids, each_refuses, give_more}
 
 -- reading a file
 read_never : (name : List ℕ) (limit : ℕ) (error : FileError) (outputs : List File) (report : List ℕ) → IsReadRefusal name limit error (Builds outputs report) → ⊥
@@ -19,13 +19,19 @@ read_never name limit read_errors.Longer outputs report p = p
 read_never name limit read_errors.Failed outputs report p = p
 read_never name limit read_errors.Memory outputs report p = p
 
+read_finds_none : (name : List ℕ) (limit : ℕ) (error : FileError) (status : Status) (list : List ℕ) → IsReadRefusal name limit error (Finds status list) → ⊥
+read_finds_none name limit read_errors.Absent status list p = p
+read_finds_none name limit read_errors.Longer status list p = p
+read_finds_none name limit read_errors.Failed status list p = p
+read_finds_none name limit read_errors.Memory status list p = p
+
 same_bytes : (told : Option (List File)) (name : List ℕ) (limit : ℕ) (bytes : List ℕ) (result : Result (List ℕ) FileError) → IsReading told name limit result → result ≡ Ok bytes → IsReading told name limit (Ok bytes)
 same_bytes told name limit bytes result read is = subst (IsReading told name limit) is read
 
 pub reading_step : (told : Option (List File)) (name : List ℕ) (limit : ℕ) → IsStep (λ bytes. IsReading told name limit (Ok bytes)) (AfterReading told name limit)
 reading_step told name limit =
     said_as (λ bytes. (result : Result (List ℕ) FileError) × IsReading told name limit result × (result ≡ Ok bytes)) _ (AfterReading told name limit)
-    (asked_step (IsReading told name limit) (λ result bytes. result ≡ Ok bytes) (λ result next. OnResult (IsReadRefusal name limit) next result) (on_result_step (IsReadRefusal name limit) (read_never name limit)))
+    (may_fail_step _ name _ (asked_step (IsReading told name limit) (λ result bytes. result ≡ Ok bytes) (λ result next. OnResult (IsReadRefusal name limit) next result) (on_result_step (IsReadRefusal name limit) (read_never name limit) (read_finds_none name limit))))
     (λ bytes given. same_bytes told name limit bytes given.0 given.1 given.2)
     (λ bytes read. (Ok bytes, read, refl))
 
@@ -33,41 +39,13 @@ reading_step told name limit =
 pub size_step : (told : Option (List File)) (name : List ℕ) → IsStep (λ size. IsSize told name (Some size)) (AfterSize told name)
 size_step told name =
     said_as (λ size. (found : Option ℕ) × IsSize told name found × (found ≡ Some size)) _ (AfterSize told name)
-    (asked_step (IsSize told name) (λ found size. found ≡ Some size) (λ found next. OnOption (IsRefusal statuses.Read (file_message name (codes "not found"))) next found)
-    (on_option_step (IsRefusal statuses.Read (file_message name (codes "not found"))) (λ outputs report p. p)))
+    (may_fail_step _ name _ (asked_step (IsSize told name) (λ found size. found ≡ Some size) (λ found next. OnOption (IsRefusal statuses.Read (file_message name (codes "not found"))) next found)
+    (on_option_step (IsRefusal statuses.Read (file_message name (codes "not found"))) (λ outputs report p. p) (λ status list p. p))))
     (λ size given. subst (IsSize told name) given.2 given.1)
     (λ size is. (Some size, is, refl))
 
 pub sizes_step : (told : Option (List File)) (names : List (List ℕ)) → IsStep (AreSizes told names) (AfterSizes told names)
 sizes_step told names = each_step (λ name size. IsSize told name (Some size)) (AfterSize told) (size_step told) names
-
--- reading a tree
-tree_splits : (name bytes : List ℕ) (next : Next FlatTree) (outcome : Outcome) → AfterTree name bytes next outcome → ((tree : FlatTree) × IsFlattened bytes tree × next tree outcome) ⊎ AfterTree name bytes nothing outcome
-tree_splits name bytes next outcome (inl refused) = inr (inl refused)
-tree_splits name bytes next outcome (inr spelled) = inl spelled
-
-tree_stays : (name bytes : List ℕ) (next : Next FlatTree) (outcome : Outcome) → AfterTree name bytes nothing outcome → AfterTree name bytes next outcome
-tree_stays name bytes next outcome (inl refused) = inl refused
-tree_stays name bytes next outcome (inr spelled) = elim spelled.2 [ ]
-
-tree_refuses : (name bytes : List ℕ) (outputs : List File) (report : List ℕ) → AfterTree name bytes nothing (Builds outputs report) → ⊥
-tree_refuses name bytes outputs report (inl refused) = refused.2
-tree_refuses name bytes outputs report (inr spelled) = spelled.2
-
-pub tree_step : (name bytes : List ℕ) → IsStep (IsFlattened bytes) (AfterTree name bytes)
-tree_step name bytes = record {
-  splits = tree_splits name bytes;
-  gives = λ tree is next outcome p. inr (tree, is, p);
-  stays = tree_stays name bytes;
-  refuses = tree_refuses name bytes;
-}
-
-pub tree_file_step : (told : Option (List File)) (name : List ℕ) → IsStep (IsTreeFile told name) (AfterTreeFile told name)
-tree_file_step told name =
-    said_as (λ tree. (bytes : List ℕ) × IsReading told name tree_limit (Ok bytes) × IsFlattened bytes tree) (IsTreeFile told name) (AfterTreeFile told name)
-    (and_then (λ bytes. IsReading told name tree_limit (Ok bytes)) IsFlattened (AfterReading told name tree_limit) (AfterTree name) (reading_step told name tree_limit) (tree_step name))
-    (λ tree given. record { file = given.0; read = given.1; flattened = given.2 })
-    (λ tree is. (is.file, is.read, is.flattened))
 
 -- ---- none of them refuses an item
 
@@ -77,9 +55,6 @@ no_item_read e = cc
 no_item_longer : statuses.Refused ≡ statuses.Longer → ⊥
 no_item_longer e = cc
 
-no_item_format : statuses.Refused ≡ statuses.Format → ⊥
-no_item_format e = cc
-
 reading_names_none : (name : List ℕ) (limit : ℕ) (result : Result (List ℕ) FileError) (message : List ℕ) → OnResult (IsReadRefusal name limit) nothing result (Refuses statuses.Refused message) → ⊥
 reading_names_none name limit (Ok bytes) message p = p
 reading_names_none name limit (Err read_errors.Absent) message p = no_item_read p.0
@@ -88,24 +63,20 @@ reading_names_none name limit (Err read_errors.Failed) message p = p
 reading_names_none name limit (Err read_errors.Memory) message p = p
 
 pub reading_avoids : (told : Option (List File)) (name : List ℕ) (limit : ℕ) → Avoids statuses.Refused (AfterReading told name limit)
-reading_avoids told name limit message p = reading_names_none name limit p.0 message p.2
+reading_avoids told name limit message (inl fails) = cc
+reading_avoids told name limit message (inr p) = reading_names_none name limit p.0 message p.2
 
 size_names_none : (name : List ℕ) (size : Option ℕ) (message : List ℕ) → OnOption (IsRefusal statuses.Read (file_message name (codes "not found"))) nothing size (Refuses statuses.Refused message) → ⊥
 size_names_none name (Some size) message p = p
 size_names_none name None message p = no_item_read p.0
 
+size_avoids_items : (told : Option (List File)) (name : List ℕ) → Avoids statuses.Refused (AfterSize told name)
+size_avoids_items told name message (inl fails) = cc
+size_avoids_items told name message (inr p) = size_names_none name p.0 message p.2
+
 pub sizes_avoid : (told : Option (List File)) (names : List (List ℕ)) → Avoids statuses.Refused (AfterSizes told names)
 sizes_avoid told names =
-    each_avoids (λ name size. IsSize told name (Some size)) (AfterSize told) (size_step told) statuses.Refused (λ name message p. size_names_none name p.0 message p.2) names
-
-tree_names_none : (name bytes message : List ℕ) → AfterTree name bytes nothing (Refuses statuses.Refused message) → ⊥
-tree_names_none name bytes message (inl refused) = no_item_format refused.2.0
-tree_names_none name bytes message (inr spelled) = spelled.2
-
-pub tree_file_avoids : (told : Option (List File)) (name : List ℕ) → Avoids statuses.Refused (AfterTreeFile told name)
-tree_file_avoids told name =
-    both_avoid (λ bytes. IsReading told name tree_limit (Ok bytes)) statuses.Refused (AfterReading told name tree_limit) (AfterTree name) (reading_step told name tree_limit) (reading_avoids told name tree_limit)
-    (tree_names_none name)
+    each_avoids (λ name size. IsSize told name (Some size)) (AfterSize told) (size_step told) statuses.Refused (size_avoids_items told) names
 
 -- ---- one file after the other
 

@@ -3,19 +3,20 @@ use Rattle.std.proofs.Common.{◌≡◌, ◌∙◌, refl, sym, ap, subst, suc, L
 use Rattle.std.specs.Prelude.{◌⊎◌, ℕ, Option, Some, None, Result, Ok, Err}
 use Rattle.outside.specs.Outside.{File}
 use Rattle.outside.specs.declared.status.Status.{Status}
-use Rattle.run_steps.specs.Endings.{Outcome, Refuses, Builds}
-use Rattle.run_steps.specs.Steps.{OnResult, OnOption, AfterEach, GiveEach, nothing}
+use Rattle.run_steps.specs.Endings.{Outcome, Refuses, Builds, Finds}
+use Rattle.run_steps.specs.Steps.{OnResult, OnOption, OrFails, AfterEach, GiveEach, nothing}
 
 -- what follows a step: what it calls for, given what the step hands on
 abbrev pub Next : Type 0 → Type 1
 Next A = A → Outcome → Type 0
 
--- A step hands on what it found, whatever follows, or it refuses; a refusal of its own does not depend on what follows, and builds nothing.
+-- A step hands on what it found, whatever follows, or it refuses; a refusal of its own does not depend on what follows, and builds and finds nothing.
 pub record IsStep {A : Type 0} (Found : A → Type 0) (step : Next A → Outcome → Type 0) : Type 1 where
   pub splits : (next : Next A) (outcome : Outcome) → step next outcome → ((x : A) × Found x × next x outcome) ⊎ step nothing outcome
   pub gives : (x : A) → Found x → (next : Next A) (outcome : Outcome) → next x outcome → step next outcome
   pub stays : (next : Next A) (outcome : Outcome) → step nothing outcome → step next outcome
   pub refuses : (outputs : List File) (report : List ℕ) → step nothing (Builds outputs report) → ⊥
+  pub finds : (status : Status) (list : List ℕ) → step nothing (Finds status list) → ⊥
 
 -- the step refuses with no such status
 abbrev pub Avoids : {A : Type 0} → Status → (Next A → Outcome → Type 0) → Type 0
@@ -29,6 +30,14 @@ found_by {A} Found step law next outputs report p = elim (law.splits next (Build
   | inr refused ↦ absurd (law.refuses outputs report refused)
 ]
 
+-- and before a list is found
+pub found_before : {A : Type 0} (Found : A → Type 0) (step : Next A → Outcome → Type 0) → IsStep Found step → (next : Next A) (status : Status) (list : List ℕ) → step next (Finds status list)
+    → (x : A) × Found x × next x (Finds status list)
+found_before {A} Found step law next status list p = elim (law.splits next (Finds status list) p) [
+  | inl given ↦ given
+  | inr refused ↦ absurd (law.finds status list refused)
+]
+
 -- the same step, with what it finds said in other words
 pub said_as : {A : Type 0} (Found Other : A → Type 0) (step : Next A → Outcome → Type 0) → IsStep Found step → ((x : A) → Found x → Other x) → ((x : A) → Other x → Found x) → IsStep Other step
 said_as Found Other step law to from = record {
@@ -39,6 +48,7 @@ said_as Found Other step law to from = record {
   gives = λ x other next outcome p. law.gives x (from x other) next outcome p;
   stays = law.stays;
   refuses = law.refuses;
+  finds = law.finds;
 }
 
 -- handing on at once
@@ -51,6 +61,7 @@ hand_on_step x = record {
   gives = λ y is next outcome p. subst (λ z. next z outcome) is p;
   stays = λ next outcome p. elim p [ ];
   refuses = λ outputs report p. p;
+  finds = λ status list p. p;
 }
 
 pub hand_on_avoids : {A : Type 0} (status : Status) (x : A) → Avoids status (hand_on x)
@@ -84,6 +95,10 @@ module _ {A B : Type 0} (FoundFirst : A → Type 0) (FoundThen : A → B → Typ
       | inl given ↦ (other given.0).refuses outputs report given.2
       | inr refused ↦ one.refuses outputs report refused
     ];
+    finds = λ status list p. elim (one.splits (λ x. second x nothing) (Finds status list) p) [
+      | inl given ↦ (other given.0).finds status list given.2
+      | inr refused ↦ one.finds status list refused
+    ];
   }
 
 -- two steps without a refusal of a status have none together
@@ -95,7 +110,8 @@ module _ {A B : Type 0} (Found : A → Type 0) (status : Status) (first : Next A
   ]
 
 -- a result, whose fault is refused
-module _ {A E : Type 0} (refusal : E → Outcome → Type 0) (never : (fault : E) (outputs : List File) (report : List ℕ) → refusal fault (Builds outputs report) → ⊥) where
+module _ {A E : Type 0} (refusal : E → Outcome → Type 0) (never : (fault : E) (outputs : List File) (report : List ℕ) → refusal fault (Builds outputs report) → ⊥)
+    (no_list : (fault : E) (status : Status) (list : List ℕ) → refusal fault (Finds status list) → ⊥) where
   on_result_splits : (result : Result A E) (next : Next A) (outcome : Outcome) → OnResult refusal next result outcome → ((x : A) × (result ≡ Ok x) × next x outcome) ⊎ OnResult refusal nothing result outcome
   on_result_splits (Ok value) next outcome p = inl (value, refl, p)
   on_result_splits (Err fault) next outcome p = inr p
@@ -108,16 +124,22 @@ module _ {A E : Type 0} (refusal : E → Outcome → Type 0) (never : (fault : E
   on_result_refuses (Ok value) outputs report p = p
   on_result_refuses (Err fault) outputs report p = never fault outputs report p
 
+  on_result_finds : (result : Result A E) (status : Status) (list : List ℕ) → OnResult refusal nothing result (Finds status list) → ⊥
+  on_result_finds (Ok value) status list p = p
+  on_result_finds (Err fault) status list p = no_list fault status list p
+
   pub on_result_step : (result : Result A E) → IsStep (λ x. result ≡ Ok x) (λ next. OnResult refusal next result)
   on_result_step result = record {
     splits = on_result_splits result;
     gives = λ x is next outcome p. subst (λ r. OnResult refusal next r outcome) (sym is) p;
     stays = on_result_stays result;
     refuses = on_result_refuses result;
+    finds = on_result_finds result;
   }
 
 -- what may be missing, which is refused
-module _ {A : Type 0} (refusal : Outcome → Type 0) (never : (outputs : List File) (report : List ℕ) → refusal (Builds outputs report) → ⊥) where
+module _ {A : Type 0} (refusal : Outcome → Type 0) (never : (outputs : List File) (report : List ℕ) → refusal (Builds outputs report) → ⊥)
+    (no_list : (status : Status) (list : List ℕ) → refusal (Finds status list) → ⊥) where
   on_option_splits : (option : Option A) (next : Next A) (outcome : Outcome) → OnOption refusal next option outcome → ((x : A) × (option ≡ Some x) × next x outcome) ⊎ OnOption refusal nothing option outcome
   on_option_splits (Some value) next outcome p = inl (value, refl, p)
   on_option_splits None next outcome p = inr p
@@ -130,12 +152,17 @@ module _ {A : Type 0} (refusal : Outcome → Type 0) (never : (outputs : List Fi
   on_option_refuses (Some value) outputs report p = p
   on_option_refuses None outputs report p = never outputs report p
 
+  on_option_finds : (option : Option A) (status : Status) (list : List ℕ) → OnOption refusal nothing option (Finds status list) → ⊥
+  on_option_finds (Some value) status list p = p
+  on_option_finds None status list p = no_list status list p
+
   pub on_option_step : (option : Option A) → IsStep (λ x. option ≡ Some x) (λ next. OnOption refusal next option)
   on_option_step option = record {
     splits = on_option_splits option;
     gives = λ x is next outcome p. subst (λ o. OnOption refusal next o outcome) (sym is) p;
     stays = on_option_stays option;
     refuses = on_option_refuses option;
+    finds = on_option_finds option;
   }
 
 -- an answer of the outside, which is not settled, and then a step on it
@@ -149,6 +176,37 @@ module _ {R A : Type 0} (Is : R → Type 0) (Found : R → A → Type 0) (on : R
     gives = λ x found next outcome p. (found.0, found.1, (law found.0).gives x found.2 next outcome p);
     stays = λ next outcome p. (p.0, p.1, (law p.0).stays next outcome p.2);
     refuses = λ outputs report p. (law p.0).refuses outputs report p.2;
+    finds = λ status list p. (law p.0).finds status list p.2;
+  }
+
+-- a step that may fail
+module _ {A : Type 0} (Found : A → Type 0) (name : List ℕ) (step : Next A → Outcome → Type 0) (law : IsStep Found step) where
+  may_fail_splits : (next : Next A) (outcome : Outcome) → OrFails name (step next outcome) outcome → ((x : A) × Found x × next x outcome) ⊎ OrFails name (step nothing outcome) outcome
+  may_fail_splits next outcome (inl fails) = inr (inl fails)
+  may_fail_splits next outcome (inr p) = elim (law.splits next outcome p) [
+    | inl given ↦ inl given
+    | inr refused ↦ inr (inr refused)
+  ]
+
+  may_fail_stays : (next : Next A) (outcome : Outcome) → OrFails name (step nothing outcome) outcome → OrFails name (step next outcome) outcome
+  may_fail_stays next outcome (inl fails) = inl fails
+  may_fail_stays next outcome (inr p) = inr (law.stays next outcome p)
+
+  may_fail_refuses : (outputs : List File) (report : List ℕ) → OrFails name (step nothing (Builds outputs report)) (Builds outputs report) → ⊥
+  may_fail_refuses outputs report (inl fails) = cc
+  may_fail_refuses outputs report (inr p) = law.refuses outputs report p
+
+  may_fail_finds : (status : Status) (list : List ℕ) → OrFails name (step nothing (Finds status list)) (Finds status list) → ⊥
+  may_fail_finds status list (inl fails) = cc
+  may_fail_finds status list (inr p) = law.finds status list p
+
+  pub may_fail_step : IsStep Found (λ next outcome. OrFails name (step next outcome) outcome)
+  may_fail_step = record {
+    splits = may_fail_splits;
+    gives = λ x found next outcome p. inr (law.gives x found next outcome p);
+    stays = may_fail_stays;
+    refuses = may_fail_refuses;
+    finds = may_fail_finds;
   }
 
 -- a step for each element of a list

@@ -1,12 +1,11 @@
 -- What outputs and streams took.
 use Rattle.std.proofs.Common.{◌≡◌, ◌∙◌, sym, ap, subst, refl, arith, ℕ, ◌+◌, ◌<◌, ◌≤◌, length, map, take, drop, get_or, List, [], ◌∷◌, ◌++◌, append-nil, append_assoc, Some, None}
-use Rattle.std.specs.Prelude.{Option, min, IsTrue, IfSome}
+use Rattle.std.specs.Prelude.{Option, min, true, IsTrue, IfSome}
 use Rattle.std.specs.List.{flat_map}
 use Rattle.std.proofs.Math.Seq.{take-append-add}
 use Rattle.std.proofs.lemmas.Grind.{flat_map-append}
 use Rattle.std.proofs.lemmas.List.{take-append-drop, take-append-le, take_min, map-append, drop_more}
 use Rattle.outside.specs.Outside.{File, TookPart, TookPrefix, and_bytes, fits_file, less_file}
-use Rattle.described.proofs.RegionLemmas.{both_true}
 use Rattle.outside.specs.declared.status.Status.{Status}
 use Rattle.outside.specs.declared.status.Status.TheVariants as statuses
 use Rattle.run_steps.specs.Endings.{and_files, TookUpTo, TakesFiles, fits_files}
@@ -61,9 +60,10 @@ takes_first : (old new : Option (ℕ × ℕ)) (file : File) (rest : List File) (
     → TakesFiles old (file ∷ rest) → Done × TakesFiles new rest
 takes_first None new file rest Done took takes = elim takes [ ]
 takes_first (Some room) new file rest Done took takes =
-    let parts = both_true (fits_file room file.0 file.1) (fits_files (less_file room file.0 file.1) rest) takes in
-    let done = took parts.0 in
-    (done.0, subst (λ (left : Option (ℕ × ℕ)). TakesFiles left rest) (sym done.1) parts.1)
+    let first : fits_file room file.0 file.1 ≡ true = grind arith in
+    let later : fits_files (less_file room file.0 file.1) rest ≡ true = grind arith in
+    let done = took first in
+    (done.0, subst (λ (left : Option (ℕ × ℕ)). TakesFiles left rest) (sym done.1) later)
 
 pub takes_output : (old new : Option (ℕ × ℕ)) (outputs : List Output) (index : ℕ) (output : Output) (Done : Type 0) → index < length outputs → output ≡ get_or outputs index output
     → IfSome old (λ room. IsTrue (fits_file room output.name output.bytes) → Done × (new ≡ Some (less_file room output.name output.bytes)))

@@ -3,10 +3,13 @@ use Rattle.std.specs.Prelude.{◌≡◌, ℕ, ◌≤◌, ◌⊎◌, Bool, true, 
 use Rattle.outside.specs.Outside.{File, Rose, and_bytes, TookPart, TookPrefix, fits_file, less_file}
 use Rattle.outside.specs.declared.status.Status.{Status}
 
--- what a run is called to do: to refuse with a status and a message, or to build outputs and a report
+-- what a run is called to do: to refuse with a status and a message, to build outputs and a report, to find something, which is a list
+-- on standard output with a status of its own, and no output, or to stop where a call for the file of a name fails
 pub data Outcome : Type 0 where
   Refuses : Status → List ℕ → Outcome
   Builds : List File → List ℕ → Outcome
+  Finds : Status → List ℕ → Outcome
+  Fails : List ℕ → Outcome
 
 -- the files that were taken, where they are told, with these
 abbrev pub and_files : Option (List File) → List File → Option (List File)

@@ -6,4 +6,3 @@ pub mod Outputs
 pub mod PrivateOutcomes
 pub mod Steps
 pub mod Stops
-pub mod Trees

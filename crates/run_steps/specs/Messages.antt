@@ -1,8 +1,5 @@
 -- What a run says on `err`: a message is one line, behind the name of the program.
 use Rattle.std.specs.Prelude.{ℕ, List, ◌++◌, codes, decimal}
-use Rattle.described.specs.declared.item.Item.{Item}
-use Rattle.described.specs.declared.why.Why.{Why}
-use Rattle.described.specs.Items.{item_text, why_text}
 
 -- the line of a program's message, ended by a line feed
 abbrev pub line : List ℕ → List ℕ → List ℕ
@@ -19,7 +16,3 @@ file_message name text = name ++ (codes ": " ++ text)
 -- a file that is longer than its limit, in bytes
 abbrev pub longer_message : List ℕ → ℕ → List ℕ
 longer_message name limit = file_message name (codes "longer than " ++ decimal limit)
-
--- a refused item, and its reason
-abbrev pub refused_message : Item → Why → List ℕ
-refused_message item why = item_text item ++ (codes ": " ++ why_text why)

@@ -1,22 +1,27 @@
 -- The steps of a run that read files: each refuses, or hands on what it found to what follows, which is left open.
-use Rattle.std.specs.Prelude.{◌≡◌, ◌≤◌, ℕ, ⊤, List, [], ◌∷◌, codes, length, Option, Some, None, Result, Ok, Err, option_map}
+use Rattle.std.specs.Prelude.{◌≡◌, ◌≤◌, ◌⊎◌, ℕ, ⊤, List, [], ◌∷◌, codes, length, Option, Some, None, Result, Ok, Err, option_map}
 use Rattle.outside.specs.Outside.{File, reading, bytes_of}
 use Rattle.outside.specs.declared.files.FileError.{FileError}
 use Rattle.outside.specs.declared.files.FileError.TheVariants as read_errors
 use Rattle.outside.specs.declared.status.Status.{Status}
 use Rattle.outside.specs.declared.status.Status.TheVariants as statuses
 use Rattle.run_steps.specs.Messages.{file_message, longer_message}
-use Rattle.run_steps.specs.Endings.{Outcome, Refuses, Builds}
+use Rattle.run_steps.specs.Endings.{Outcome, Refuses, Builds, Finds, Fails}
 
 -- the outcome is this refusal
 abbrev pub IsRefusal : Status → List ℕ → Outcome → Type 0
 IsRefusal status message (Refuses other_status other_message) = (other_status ≡ status) × (other_message ≡ message)
-IsRefusal status message (Builds outputs report) = ⊥
+IsRefusal status message outcome = ⊥
 
 -- the outcome is to write these outputs and to put this report
 abbrev pub IsWriting : List File → List ℕ → Outcome → Type 0
 IsWriting outputs report (Builds other_outputs other_report) = (other_outputs ≡ outputs) × (other_report ≡ report)
-IsWriting outputs report (Refuses status message) = ⊥
+IsWriting outputs report outcome = ⊥
+
+-- the outcome is to put this list, and to answer this status
+abbrev pub IsFinding : Status → List ℕ → Outcome → Type 0
+IsFinding status list (Finds other_status other_list) = (other_status ≡ status) × (other_list ≡ list)
+IsFinding status list outcome = ⊥
 
 -- nothing follows
 abbrev pub nothing : {A : Type 0} → A → Outcome → Type 0
@@ -44,10 +49,14 @@ IsReadRefusal name limit read_errors.Absent outcome = IsRefusal statuses.Read (f
 IsReadRefusal name limit read_errors.Longer outcome = IsRefusal statuses.Longer (longer_message name limit) outcome
 IsReadRefusal name limit error outcome = ⊥
 
+-- the call for the file of this name fails; or what comes else
+abbrev pub OrFails : List ℕ → Type 0 → Outcome → Type 0
+OrFails name other outcome = (outcome ≡ Fails name) ⊎ other
+
 -- a file is read within a limit, in bytes, and its bytes are handed on
 abbrev pub AfterReading : Option (List File) → List ℕ → ℕ → (List ℕ → Outcome → Type 0) → Outcome → Type 0
 AfterReading told name limit next outcome =
-    (result : Result (List ℕ) FileError) × IsReading told name limit result × OnResult (IsReadRefusal name limit) next result outcome
+    OrFails name ((result : Result (List ℕ) FileError) × IsReading told name limit result × OnResult (IsReadRefusal name limit) next result outcome) outcome
 
 -- the size of a file in bytes, which is not there where it has none: what the files say, where they are told
 abbrev pub IsSize : Option (List File) → List ℕ → Option ℕ → Type 0
@@ -57,7 +66,7 @@ IsSize None name size = ⊤
 -- a file is measured, and its size is handed on
 abbrev pub AfterSize : Option (List File) → List ℕ → (ℕ → Outcome → Type 0) → Outcome → Type 0
 AfterSize told name next outcome =
-    (size : Option ℕ) × IsSize told name size × OnOption (IsRefusal statuses.Read (file_message name (codes "not found"))) next size outcome
+    OrFails name ((size : Option ℕ) × IsSize told name size × OnOption (IsRefusal statuses.Read (file_message name (codes "not found"))) next size outcome) outcome
 
 -- a step for each element of a list in its order, and all that they handed on is handed on
 abbrev pub AfterEach : {A B : Type 0} → (A → (B → Outcome → Type 0) → Outcome → Type 0) → List A → (List B → Outcome → Type 0) → Outcome → Type 0

@@ -1,8 +1,7 @@
 // Messages, which are said behind the program's name.
 ghost use Rattle.std.specs.Prelude.{◌≡◌, IfOk};
-ghost use Rattle.run_steps.specs.Messages.{file_message, longer_message, refused_message};
+ghost use Rattle.run_steps.specs.Messages.{file_message, longer_message};
 
-use described::{Item, Why};
 use std::alloc::{AllocError, Global};
 use texts::Bytes;
 
@@ -29,16 +28,5 @@ pub(crate) fn make_longer_message(
     text.append(b"longer than ")?;
     text.append_decimal(alloc, limit)?;
     let message = make_file_message(alloc, name, text.as_slice())?;
-    Ok(message)
-}
-
-/// What is said about a refused item: `ITEM: WHY`.
-pub fn make_refused_message(alloc: Global, item: &Item, why: &Why) -> Result<Bytes, AllocError>
-    ensures { IfOk result (λ message. message ≡ refused_message item.now why.now) }
-{
-    let mut message = Bytes::new(alloc);
-    item.append_text(alloc, &mut message)?;
-    message.append(b": ")?;
-    why.append_text(alloc, &mut message)?;
     Ok(message)
 }

@@ -1,7 +1,8 @@
 // Reading a file.
 ghost use Rattle.std.specs.Prelude.{◌≡◌, IfOk, IfErr, Ok};
+ghost use Rattle.outside.specs.Reads.{Reads};
 ghost use Rattle.run_steps.specs.Steps.{IsReading, AfterReading, nothing};
-ghost use Rattle.run_steps.specs.Stops.{IsDue, Grew};
+ghost use Rattle.run_steps.specs.Stops.{StopsFor};
 
 use crate::messages::{make_file_message, make_longer_message};
 use crate::stop::Stop;
@@ -17,9 +18,8 @@ pub fn read_file<F: Files>(
     files: &mut F,
 ) -> Result<Vec<u8>, Stop>
     ensures read { IfOk result (λ bytes. IsReading (F.held files.old) name.now limit (Ok bytes.items)) }
-    ensures stopped { IfErr result (λ stop. IsDue (AfterReading (F.held files.old) name.now limit nothing) (F.faults files.old, F.absents files.old, F.overlong files.old) (F.faults files.new, F.absents files.new, F.overlong files.new) stop) }
-    ensures grew { Grew (F.faults files.old, F.absents files.old, F.overlong files.old) (F.faults files.new, F.absents files.new, F.overlong files.new) }
-    ensures kept { F.held files.new ≡ F.held files.old }
+    ensures stopped { IfErr result (StopsFor F.counts files.old files.new (AfterReading (F.held files.old) name.now limit nothing)) }
+    ensures only_read { Reads F.held F.counts files.old files.new }
 {
     match files.read(alloc, name, limit) {
         Ok(bytes) => Ok(bytes),

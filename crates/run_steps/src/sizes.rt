@@ -1,9 +1,10 @@
 // Measuring files.
 ghost use Rattle.std.specs.Prelude.{◌≡◌, IfOk, IfErr, Some, map};
 ghost use Rattle.std.specs.Option.{option_copied};
+ghost use Rattle.outside.specs.Reads.{Reads};
 ghost use Rattle.run_steps.specs.Names.{joined};
 ghost use Rattle.run_steps.specs.Steps.{IsSize, AreSizes, AfterSize, AfterSizes, nothing};
-ghost use Rattle.run_steps.specs.Stops.{IsDue, Grew};
+ghost use Rattle.run_steps.specs.Stops.{StopsFor};
 
 use crate::messages::make_file_message;
 use crate::names::join;
@@ -15,9 +16,8 @@ use texts::Text;
 /// The size of a file, in bytes. A file that is not there stops the run; so does a failed call.
 pub fn measure<F: Files>(alloc: Global, name: &str, files: &mut F) -> Result<u64, Stop>
     ensures measured { IfOk result (λ size. IsSize (F.held files.old) name.now (Some size)) }
-    ensures stopped { IfErr result (λ stop. IsDue (AfterSize (F.held files.old) name.now nothing) (F.faults files.old, F.absents files.old, F.overlong files.old) (F.faults files.new, F.absents files.new, F.overlong files.new) stop) }
-    ensures grew { Grew (F.faults files.old, F.absents files.old, F.overlong files.old) (F.faults files.new, F.absents files.new, F.overlong files.new) }
-    ensures kept { F.held files.new ≡ F.held files.old }
+    ensures stopped { IfErr result (StopsFor F.counts files.old files.new (AfterSize (F.held files.old) name.now nothing)) }
+    ensures only_read { Reads F.held F.counts files.old files.new }
 {
     match files.size(name) {
         Ok(size) => Ok(size),
@@ -40,9 +40,8 @@ pub fn measure_all<F: Files>(
     files: &mut F,
 ) -> Result<Vec<u64>, Stop>
     ensures measured { IfOk result (λ sizes. AreSizes (F.held files.old) (map (joined (option_copied folder.entry)) names.now) sizes.items) }
-    ensures stopped { IfErr result (λ stop. IsDue (AfterSizes (F.held files.old) (map (joined (option_copied folder.entry)) names.now) nothing) (F.faults files.old, F.absents files.old, F.overlong files.old) (F.faults files.new, F.absents files.new, F.overlong files.new) stop) }
-    ensures grew { Grew (F.faults files.old, F.absents files.old, F.overlong files.old) (F.faults files.new, F.absents files.new, F.overlong files.new) }
-    ensures kept { F.held files.new ≡ F.held files.old }
+    ensures stopped { IfErr result (StopsFor F.counts files.old files.new (AfterSizes (F.held files.old) (map (joined (option_copied folder.entry)) names.now) nothing)) }
+    ensures only_read { Reads F.held F.counts files.old files.new }
 {
     let mut sizes = Vec::new(alloc);
     for name in names {
@@ -62,9 +61,8 @@ fn measure_in<F: Files>(
     files: &mut F,
 ) -> Result<u64, Stop>
     ensures measured { IfOk result (λ size. IsSize (F.held files.old) (joined (option_copied folder.entry) name.now) (Some size)) }
-    ensures stopped { IfErr result (λ stop. IsDue (AfterSize (F.held files.old) (joined (option_copied folder.entry) name.now) nothing) (F.faults files.old, F.absents files.old, F.overlong files.old) (F.faults files.new, F.absents files.new, F.overlong files.new) stop) }
-    ensures grew { Grew (F.faults files.old, F.absents files.old, F.overlong files.old) (F.faults files.new, F.absents files.new, F.overlong files.new) }
-    ensures kept { F.held files.new ≡ F.held files.old }
+    ensures stopped { IfErr result (StopsFor F.counts files.old files.new (AfterSize (F.held files.old) (joined (option_copied folder.entry) name.now) nothing)) }
+    ensures only_read { Reads F.held F.counts files.old files.new }
 {
     let path = join(alloc, folder, name)?;
     measure(alloc, path.as_str(), files)

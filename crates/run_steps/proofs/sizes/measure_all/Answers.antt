@@ -17,6 +17,6 @@ loop-name-preserved g c = (
   rw c.in_ok-push-in-Ok.ensures.items
       (measured_more (g.F.Files.held c.args.files.now) (joined (option_copied c.args.folder)) c.args.names.now c.loop-name.name-index c.name-item.result c.loop-name-test.true c.name-item.is c.loop-name.sizes.items c.loop-name.invariant.0
       c.in-Ok.size (rw (c.loop-name.invariant.1, c.as_str.ensures) at c.in-Ok.ensures.measured)),
-  c.measure_in.ensures.kept ∙ c.loop-name.invariant.1,
-  grew_twice _ _ _ c.loop-name.invariant.2 c.measure_in.ensures.grew,
+  c.measure_in.ensures.only_read.held_kept ∙ c.loop-name.invariant.1,
+  grew_twice _ _ _ c.loop-name.invariant.2 c.measure_in.ensures.only_read.counted,
 )
