@@ -5,7 +5,7 @@ use Rattle.outside.specs.declared.status.Status.TheVariants as statuses
 use Rattle.item_checks.specs.Refusals.{Refusal}
 use Rattle.guest_images.specs.Requests.{refused_tables}
 use Rattle.run_steps.specs.Endings.{Outcome}
-use Rattle.run_steps.specs.Messages.{refused_message}
+use Rattle.described.specs.Items.{refusal_text}
 use Rattle.run_steps.specs.Steps.{IsRefusal, OnResult}
 use Rattle.domain_plan.specs.Descriptions.{Description}
 use Rattle.domain_plan.specs.TreePlans.{TreePlan, plan_of}
@@ -33,7 +33,7 @@ built_of boot description = with_last boot description (plan_of description)
 
 -- an item is refused with its reason
 abbrev pub IsItemRefusal : Refusal → Outcome → Type 0
-IsItemRefusal refusal outcome = IsRefusal statuses.Refused (refused_message refusal.0 refusal.1) outcome
+IsItemRefusal refusal outcome = IsRefusal statuses.Refused (refusal_text refusal.0 refusal.1) outcome
 
 -- the first refused item is said; or nothing is refused, and the plan is handed on
 abbrev pub AfterItems : ℕ → Description → (TreePlan → Outcome → Type 0) → Outcome → Type 0

@@ -1,23 +1,25 @@
 //! Refused items as stops of a run.
 ghost use Rattle.std.specs.Prelude.{◌≡◌, ◌⊎◌, Some, None};
-ghost use Rattle.run_steps.specs.Messages.{refused_message};
+ghost use Rattle.described.specs.Items.{refusal_text};
 ghost use Rattle.run_steps.specs.Stops.{IsOwnDue};
 ghost use Rattle.item_checks.specs.Refusals.{Refusal};
 ghost use Rattle.build_outputs.specs.Builds.{IsItemRefusal};
 
-use described::{Item, Why};
+use described::{Item, Why, append_refusal};
 use guest_images::ImagesFault;
 use item_checks::PlanFault;
 use outside::Status;
-use run_steps::{Stop, make_refused_message};
+use run_steps::Stop;
 use std::alloc::Global;
+use texts::Bytes;
 
 /// The stop at a refused item.
 pub(crate) fn refused(alloc: Global, item: &Item, why: &Why) -> Stop
     ensures { IsOwnDue (IsItemRefusal (item.now, why.now)) result }
 {
-    match make_refused_message(alloc, item, why) {
-        Ok(message) => Stop::Because(Status::Refused, message),
+    let mut message = Bytes::new(alloc);
+    match append_refusal(alloc, &mut message, item, why) {
+        Ok(()) => Stop::Because(Status::Refused, message),
         Err(_) => Stop::Memory,
     }
 }

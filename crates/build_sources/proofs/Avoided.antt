@@ -23,10 +23,11 @@ use Rattle.dom0less_words.specs.Words.{Word, Source, Config, Replay, Ready}
 use Rattle.run_steps.specs.Endings.{Outcome, Refuses}
 use Rattle.run_steps.specs.Names.{joined}
 use Rattle.run_steps.specs.Steps.{IsReading, OnResult, AfterReading}
-use Rattle.run_steps.specs.Trees.{FlatTree, AfterTreeFile}
+use Rattle.tree_files.specs.Trees.{FlatTree, AfterTreeFile}
 use Rattle.run_steps.proofs.Step.{Next, Avoids, both_avoid, each_avoids, hand_on_avoids}
 use Rattle.run_steps.proofs.ReadingSteps.{reading_step}
-use Rattle.run_steps.proofs.Avoided.{IsOfNoFile, format_avoids, reading_avoids, size_avoids, sizes_avoid, tree_avoids}
+use Rattle.run_steps.proofs.Avoided.{IsOfNoFile, format_avoids, reading_avoids, size_avoids, sizes_avoid}
+use Rattle.tree_files.proofs.TreeSteps.{tree_avoids}
 pub use Rattle.run_steps.proofs.Avoided.{item_of_no_file}
 use Rattle.build_sources.specs.Handed.{HandsOn}
 use Rattle.build_sources.specs.Configs.{config_limit, IsConfigRefusal, IsPlaceRefusal, IsMakeRefusal, AfterConfig, AfterFileSizes, AfterScript, AfterHost, AfterMade, Made, IsMade, IsConfigFile, facts_of, host_file, other_files}

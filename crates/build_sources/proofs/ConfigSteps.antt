@@ -16,11 +16,13 @@ use Rattle.ib_script.specs.declared.make.LoadKind.{LoadKind}
 use Rattle.ib_script.specs.declared.make.MakeFault.{MakeFault}
 use Rattle.ib_script.specs.declared.make.MakeFault.TheVariants as make_faults
 use Rattle.run_steps.specs.Names.{joined}
-use Rattle.run_steps.specs.Endings.{Outcome, Builds}
+use Rattle.outside.specs.declared.status.Status.{Status}
+use Rattle.run_steps.specs.Endings.{Outcome, Builds, Finds}
 use Rattle.run_steps.specs.Steps.{IsSize, IsReading, OnResult, AfterReading, AreSizes, AfterSizes, nothing}
-use Rattle.run_steps.specs.Trees.{FlatTree, AfterTreeFile, IsTreeFile}
+use Rattle.tree_files.specs.Trees.{FlatTree, AfterTreeFile, IsTreeFile}
 use Rattle.run_steps.proofs.Step.{Next, IsStep, and_then, said_as, hand_on, hand_on_step, on_result_step, as_many}
-use Rattle.run_steps.proofs.ReadingSteps.{reading_step, sizes_step, tree_file_step}
+use Rattle.run_steps.proofs.ReadingSteps.{reading_step, sizes_step}
+use Rattle.tree_files.proofs.TreeSteps.{tree_file_step}
 use Rattle.build_sources.specs.Configs.{IsConfigFile, IsMade, config_limit, IsConfigRefusal, IsPlaceRefusal, IsMakeRefusal, AfterConfig, AfterFileSizes, AfterScript, AfterHost, AfterMade, Made, facts_of, host_file, other_files}
 
 -- the host's tree is placed after all others
@@ -63,17 +65,25 @@ place_never : (fault : PlaceFault) (outputs : List File) (report : List ℕ) →
 place_never (place_faults.PastEnd name end) outputs report p = p
 place_never place_faults.Memory outputs report p = p
 
+place_finds_none : (fault : PlaceFault) (status : Status) (list : List ℕ) → IsPlaceRefusal fault (Finds status list) → ⊥
+place_finds_none (place_faults.PastEnd name end) status list p = p
+place_finds_none place_faults.Memory status list p = p
+
 make_never : (tree : List ℕ) (fault : MakeFault) (outputs : List File) (report : List ℕ) → IsMakeRefusal tree fault (Builds outputs report) → ⊥
 make_never tree (make_faults.NoPhandle highest) outputs report p = p
 make_never tree make_faults.Memory outputs report p = p
+
+make_finds_none : (tree : List ℕ) (fault : MakeFault) (status : Status) (list : List ℕ) → IsMakeRefusal tree fault (Finds status list) → ⊥
+make_finds_none tree (make_faults.NoPhandle highest) status list p = p
+make_finds_none tree make_faults.Memory status list p = p
 
 pub script_step : (folder : Option (List ℕ)) (kind : LoadKind) (settings : Settings) (tree : FlatTree) (sizes : List ℕ)
     → IsStep (IsScriptOf settings tree kind sizes) (AfterScript folder kind settings tree sizes)
 script_step folder kind settings tree sizes =
     and_then (λ places. places_of settings sizes ≡ Ok places) (λ places script. made_of settings places (facts_of tree.root) kind ≡ Ok script)
     (λ next. OnResult IsPlaceRefusal next (places_of settings sizes)) (λ places next. OnResult (IsMakeRefusal (host_file folder settings)) next (made_of settings places (facts_of tree.root) kind))
-    (on_result_step IsPlaceRefusal place_never (places_of settings sizes))
-    (λ places. on_result_step (IsMakeRefusal (host_file folder settings)) (make_never (host_file folder settings)) (made_of settings places (facts_of tree.root) kind))
+    (on_result_step IsPlaceRefusal place_never place_finds_none (places_of settings sizes))
+    (λ places. on_result_step (IsMakeRefusal (host_file folder settings)) (make_never (host_file folder settings)) (make_finds_none (host_file folder settings)) (made_of settings places (facts_of tree.root) kind))
 
 module _ (told : Option (List File)) where
   pub config_step : (name : List ℕ) → IsStep (IsConfigFile told name) (AfterConfig told name)
@@ -81,7 +91,7 @@ module _ (told : Option (List File)) where
       said_as (λ settings. (bytes : List ℕ) × IsReading told name config_limit (Ok bytes) × (config_of bytes ≡ Ok settings)) (IsConfigFile told name) (AfterConfig told name)
       (and_then (λ bytes. IsReading told name config_limit (Ok bytes)) (λ bytes settings. config_of bytes ≡ Ok settings)
       (AfterReading told name config_limit) (λ bytes next. OnResult (IsConfigRefusal name) next (config_of bytes))
-      (reading_step told name config_limit) (λ bytes. on_result_step (IsConfigRefusal name) (λ fault outputs report p. p) (config_of bytes)))
+      (reading_step told name config_limit) (λ bytes. on_result_step (IsConfigRefusal name) (λ fault outputs report p. p) (λ fault status list p. p) (config_of bytes)))
       (λ settings given. record { file = given.0; read = given.1; configured = given.2 })
       (λ settings is. (is.file, is.read, is.configured))
 

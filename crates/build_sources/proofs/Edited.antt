@@ -51,7 +51,7 @@ module _ (told : Option (List File)) (config : Word) (folder : Option Word) (kin
   run_found : (outputs : Option Word) → IsStep (λ stand. (root : Tree) × (tree_effect made.script made.tree.root ≡ Ok root) × (stand ≡ config_stand outputs made root)) (AfterMadeRun outputs made)
   run_found outputs =
       and_then (λ root. tree_effect made.script made.tree.root ≡ Ok root) (λ root stand. stand ≡ config_stand outputs made root) (AfterRun script_name made.script made.tree.root) (λ root. hand_on (config_stand outputs made root))
-      (on_result_step (IsStepRefusal script_name) (λ fault outputs report p. p) (tree_effect made.script made.tree.root)) (λ root. hand_on_step (config_stand outputs made root))
+      (on_result_step (IsStepRefusal script_name) (λ fault outputs report p. p) (λ fault status list p. p) (tree_effect made.script made.tree.root)) (λ root. hand_on_step (config_stand outputs made root))
 
   edited_of_run : (outputs : Option Word) (root : Tree) → tree_effect made.script made.tree.root ≡ Ok root → StandsOnEdited told config folder kind outputs (config_stand outputs made root)
   edited_of_run outputs root effect = record {

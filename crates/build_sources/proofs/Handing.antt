@@ -1,9 +1,10 @@
 -- What a step hands on where it refuses nothing is what it found.
 use Rattle.std.proofs.Common.{◌≡◌, refl, subst, [], inl, inr}
 use Rattle.std.specs.Prelude.{Result, Ok, Err, IfOk, IfErr}
+use Rattle.outside.specs.Reads.{Counts, Grew}
 use Rattle.run_steps.specs.Endings.{Outcome}
 use Rattle.run_steps.specs.Steps.{nothing}
-use Rattle.run_steps.specs.Stops.{Counts, Grew, IsDue, IsOwnDue}
+use Rattle.run_steps.specs.Stops.{IsDue, IsOwnDue}
 use Rattle.run_steps.specs.declared.stop.Stop.{Stop}
 use Rattle.run_steps.proofs.Due.{due_here, stopped_later, stopped_anyway}
 use Rattle.run_steps.proofs.Step.{Next, IsStep, said_as, and_then, hand_on, hand_on_step}

@@ -20,9 +20,10 @@ use Rattle.dom0less_words.specs.Words.{Word, Source, Config, Replay, Ready}
 use Rattle.run_steps.specs.Laws.{IsDetermined}
 use Rattle.run_steps.specs.Names.{joined}
 use Rattle.run_steps.specs.Steps.{OnResult, AfterReading, AfterEach}
-use Rattle.run_steps.specs.Trees.{FlatTree, AfterTreeFile}
+use Rattle.tree_files.specs.Trees.{FlatTree, AfterTreeFile}
 use Rattle.run_steps.proofs.Step.{hand_on}
-use Rattle.run_steps.proofs.OneOutcome.{Decides, both_decide, hand_on_decides, refusals_agree, never_agrees, on_result_decides, each_decides, reading_decides, size_decides, sizes_decide, tree_file_decides}
+use Rattle.run_steps.proofs.OneOutcome.{Decides, both_decide, hand_on_decides, refusals_agree, never_agrees, on_result_decides, each_decides, reading_decides, size_decides, sizes_decide}
+use Rattle.tree_files.proofs.TreeSteps.{tree_file_decides}
 use Rattle.build_sources.specs.Configs.{config_limit, IsConfigRefusal, IsPlaceRefusal, IsMakeRefusal, AfterConfig, AfterScript, AfterHost, AfterMade, Made, facts_of, host_file, other_files}
 use Rattle.build_sources.specs.Scripts.{script_name}
 use Rattle.build_sources.specs.Sources.{Stand, script_limit, IsLineRefusal, IsStepRefusal, AfterScriptFile, AfterRun, loads_named, known_size, AfterKnownSize, AfterLoadSize, AfterLoadSizes, config_stand, replay_stand, ready_stand, AfterSource}

@@ -8,9 +8,9 @@ use Rattle.fdt_read.specs.Reservations.{pairs, reservations_block, before_last, 
 use Rattle.fdt_tree.specs.declared.reserve.Reserve.{Reserve}
 use Rattle.ib_script.specs.declared.make.LoadKind.{LoadKind}
 use Rattle.dom0less_words.specs.Words.{Word, Source, Config, Replay, Ready}
-use Rattle.run_steps.specs.Trees.{FlatTree, AfterTreeFile, IsTreeFile}
+use Rattle.tree_files.specs.Trees.{FlatTree, AfterTreeFile, IsTreeFile}
 use Rattle.run_steps.proofs.Step.{found_by}
-use Rattle.run_steps.proofs.ReadingSteps.{tree_file_step}
+use Rattle.tree_files.proofs.TreeSteps.{tree_file_step}
 use Rattle.build_sources.specs.Handed.{HandsOn}
 use Rattle.build_sources.specs.Configs.{AfterMade, IsMade}
 use Rattle.build_sources.specs.Scripts.{script_name}

@@ -11,9 +11,10 @@ use Rattle.script_run.specs.Reading.{commands_of}
 use Rattle.dom0less_words.specs.Words.{Word, Source, Config, Replay, Ready}
 use Rattle.run_steps.specs.Names.{joined}
 use Rattle.run_steps.specs.Steps.{IsReading, OnResult, AfterReading, AfterEach}
-use Rattle.run_steps.specs.Trees.{FlatTree, AfterTreeFile, IsTreeFile}
+use Rattle.tree_files.specs.Trees.{FlatTree, AfterTreeFile, IsTreeFile}
 use Rattle.run_steps.proofs.Step.{IsStep, and_then, hand_on, hand_on_step, on_result_step, each_step}
-use Rattle.run_steps.proofs.ReadingSteps.{reading_step, size_step, tree_file_step}
+use Rattle.run_steps.proofs.ReadingSteps.{reading_step, size_step}
+use Rattle.tree_files.proofs.TreeSteps.{tree_file_step}
 use Rattle.build_sources.specs.Handed.{HandsOn}
 use Rattle.build_sources.specs.Configs.{Made, AfterMade, IsMade}
 use Rattle.build_sources.specs.Scripts.{script_name}
@@ -27,7 +28,7 @@ use Rattle.build_sources.proofs.Handing as handing
 -- a script is run
 pub run_step : (name : List ℕ) (commands : List Command) (root : Tree) → IsStep (HandsOn (AfterRun name commands root)) (AfterRun name commands root)
 run_step name commands root =
-    handed_step (λ after. tree_effect commands root ≡ Ok after) (AfterRun name commands root) (on_result_step (IsStepRefusal name) (λ fault outputs report p. p) (tree_effect commands root))
+    handed_step (λ after. tree_effect commands root ≡ Ok after) (AfterRun name commands root) (on_result_step (IsStepRefusal name) (λ fault outputs report p. p) (λ fault status list p. p) (tree_effect commands root))
 
 -- the script of a configuration is run
 pub made_run_step : (outputs : Option Word) (made : Made) → IsStep (HandsOn (AfterMadeRun outputs made)) (AfterMadeRun outputs made)
@@ -49,7 +50,7 @@ module _ (told : Option (List File)) where
   script_file_step name =
       handed_step _ (AfterScriptFile told name)
       (and_then (λ text. IsReading told name script_limit (Ok text)) (λ text commands. commands_of text ≡ Ok commands) (AfterReading told name script_limit) (λ text next. OnResult (IsLineRefusal name) next (commands_of text))
-      (reading_step told name script_limit) (λ text. on_result_step (IsLineRefusal name) (λ fault outputs report p. p) (commands_of text)))
+      (reading_step told name script_limit) (λ text. on_result_step (IsLineRefusal name) (λ fault outputs report p. p) (λ fault status list p. p) (commands_of text)))
 
   -- loads are measured
   pub known_size_step : (name : List ℕ) (known : Option ℕ) → IsStep (HandsOn (AfterKnownSize told name known)) (AfterKnownSize told name known)

@@ -24,7 +24,7 @@ use Rattle.run_steps.specs.Messages.{file_message}
 use Rattle.run_steps.specs.Names.{joined}
 use Rattle.run_steps.specs.Endings.{Outcome}
 use Rattle.run_steps.specs.Steps.{IsRefusal, OnResult, IsReading, AfterReading, AreSizes, AfterSizes}
-use Rattle.run_steps.specs.Trees.{FlatTree, AfterTreeFile, IsTreeFile}
+use Rattle.tree_files.specs.Trees.{FlatTree, AfterTreeFile, IsTreeFile}
 
 -- the longest configuration that is read, in bytes
 abbrev pub config_limit : ℕ

@@ -1,7 +1,7 @@
 -- What the types of the code say, in the words of the definitions.
 use Rattle.std.specs.Prelude.{map}
 use Rattle.run_steps.specs.Outputs.{file_of}
-use Rattle.run_steps.specs.Trees.{flat_tree}
+use Rattle.tree_files.specs.Trees.{flat_tree}
 use Rattle.build_sources.specs.Configs as configs
 use Rattle.build_sources.specs.Sources as sources
 use Rattle.build_sources.specs.declared.configuration.Made.{Made}

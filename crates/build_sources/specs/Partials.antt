@@ -9,7 +9,7 @@ use Rattle.dom0less_words.specs.Words.{Word}
 use Rattle.run_steps.specs.Endings.{Outcome}
 use Rattle.run_steps.specs.Names.{joined}
 use Rattle.run_steps.specs.Steps.{AfterEach}
-use Rattle.run_steps.specs.Trees.{AfterTreeFile}
+use Rattle.tree_files.specs.Trees.{AfterTreeFile}
 use Rattle.build_sources.specs.Handed.{HandsOn}
 use Rattle.build_sources.specs.Sources.{Stand}
 

@@ -4,7 +4,7 @@ use Rattle.outside.specs.Outside.{File}
 use Rattle.ib_script.specs.declared.command.Command.{Command}
 use Rattle.dom0less_words.specs.Words.{Word}
 use Rattle.run_steps.specs.Endings.{Outcome}
-use Rattle.run_steps.specs.Trees.{FlatTree, AfterTreeFile}
+use Rattle.tree_files.specs.Trees.{FlatTree, AfterTreeFile}
 use Rattle.build_sources.specs.Configs.{Made}
 use Rattle.build_sources.specs.Scripts.{script_name}
 use Rattle.build_sources.specs.Sources.{Stand, AfterRun, AfterLoadSizes, config_stand, replay_stand}

@@ -20,7 +20,7 @@ use Rattle.run_steps.specs.Endings.{Outcome}
 use Rattle.run_steps.specs.Messages.{file_message}
 use Rattle.run_steps.specs.Names.{joined}
 use Rattle.run_steps.specs.Steps.{IsRefusal, OnResult, AfterReading, AfterSize, AfterEach}
-use Rattle.run_steps.specs.Trees.{FlatTree, AfterTreeFile}
+use Rattle.tree_files.specs.Trees.{FlatTree, AfterTreeFile}
 use Rattle.build_sources.specs.Configs.{Made, AfterMade}
 use Rattle.build_sources.specs.Handed.{HandsOn}
 use Rattle.build_sources.specs.Scripts.{script_name, script_file, unused_lines}

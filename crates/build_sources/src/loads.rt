@@ -1,10 +1,11 @@
 // The sizes of the files that a script loads.
 ghost use Rattle.std.specs.Prelude.{◌≡◌, ◌++◌, OnOk, IfOk, IfErr, length, option_to_list};
 ghost use Rattle.std.specs.Option.{option_copied};
+ghost use Rattle.outside.specs.Reads.{Reads};
 ghost use Rattle.script_run.specs.Effect.{load_count};
 ghost use Rattle.run_steps.specs.Names.{joined};
 ghost use Rattle.run_steps.specs.Steps.{AfterEach, nothing};
-ghost use Rattle.run_steps.specs.Stops.{IsDue, Grew};
+ghost use Rattle.run_steps.specs.Stops.{StopsFor};
 ghost use Rattle.build_sources.specs.Handed.{HandsOn};
 ghost use Rattle.build_sources.specs.Sources.{load_named, known_size, AfterKnownSize, AfterLoadSize, AfterLoadSizes};
 
@@ -26,9 +27,8 @@ pub(crate) fn measure_loads<F: Files>(
 ) -> Result<Vec<u64>, Stop>
     ensures measured { IfOk result (λ sizes. HandsOn (AfterLoadSizes (F.held files.old) (option_copied folder.entry) commands.now bytes) sizes.items) }
     ensures sized { IfOk result (λ sizes. length sizes.items ≡ load_count commands.now) }
-    ensures stopped { IfErr result (λ stop. IsDue (AfterLoadSizes (F.held files.old) (option_copied folder.entry) commands.now bytes nothing) (F.faults files.old, F.absents files.old, F.overlong files.old) (F.faults files.new, F.absents files.new, F.overlong files.new) stop) }
-    ensures grew { Grew (F.faults files.old, F.absents files.old, F.overlong files.old) (F.faults files.new, F.absents files.new, F.overlong files.new) }
-    ensures kept { F.held files.new ≡ F.held files.old }
+    ensures stopped { IfErr result (StopsFor F.counts files.old files.new (AfterLoadSizes (F.held files.old) (option_copied folder.entry) commands.now bytes nothing)) }
+    ensures only_read { Reads F.held F.counts files.old files.new }
 {
     let tree = tree_load(commands);
     let script = commands.as_slice();
@@ -64,9 +64,8 @@ fn measure_load<F: Files>(
     files: &mut F,
 ) -> Result<Option<u64>, Stop>
     ensures measured { IfOk result (λ size. HandsOn (AfterEach (AfterLoadSize (F.held files.old) (option_copied folder.entry) tree bytes) (load_named (index, command.now))) (option_to_list size)) }
-    ensures stopped { IfErr result (λ stop. IsDue (AfterEach (AfterLoadSize (F.held files.old) (option_copied folder.entry) tree bytes) (load_named (index, command.now)) nothing) (F.faults files.old, F.absents files.old, F.overlong files.old) (F.faults files.new, F.absents files.new, F.overlong files.new) stop) }
-    ensures grew { Grew (F.faults files.old, F.absents files.old, F.overlong files.old) (F.faults files.new, F.absents files.new, F.overlong files.new) }
-    ensures kept { F.held files.new ≡ F.held files.old }
+    ensures stopped { IfErr result (StopsFor F.counts files.old files.new (AfterEach (AfterLoadSize (F.held files.old) (option_copied folder.entry) tree bytes) (load_named (index, command.now)) nothing)) }
+    ensures only_read { Reads F.held F.counts files.old files.new }
 {
     match command {
         Command::Load { name, .. } => {
@@ -100,9 +99,8 @@ fn measure_unknown<F: Files>(
     files: &mut F,
 ) -> Result<u64, Stop>
     ensures measured { IfOk result (HandsOn (AfterKnownSize (F.held files.old) (joined (option_copied folder.entry) name.now) known)) }
-    ensures stopped { IfErr result (λ stop. IsDue (AfterKnownSize (F.held files.old) (joined (option_copied folder.entry) name.now) known nothing) (F.faults files.old, F.absents files.old, F.overlong files.old) (F.faults files.new, F.absents files.new, F.overlong files.new) stop) }
-    ensures grew { Grew (F.faults files.old, F.absents files.old, F.overlong files.old) (F.faults files.new, F.absents files.new, F.overlong files.new) }
-    ensures kept { F.held files.new ≡ F.held files.old }
+    ensures stopped { IfErr result (StopsFor F.counts files.old files.new (AfterKnownSize (F.held files.old) (joined (option_copied folder.entry) name.now) known nothing)) }
+    ensures only_read { Reads F.held F.counts files.old files.new }
 {
     match known {
         Some(size) => Ok(size),

@@ -1,9 +1,10 @@
 // The guests' partial device trees.
 ghost use Rattle.std.specs.Prelude.{◌≡◌, IfOk, IfErr, map, option_map, take};
 ghost use Rattle.std.specs.Option.{option_copied};
+ghost use Rattle.outside.specs.Reads.{Reads};
 ghost use Rattle.domain_bindings.specs.Descriptions.{description_of, trees_in};
 ghost use Rattle.run_steps.specs.Steps.{AfterEach, nothing};
-ghost use Rattle.run_steps.specs.Stops.{IsDue, Grew};
+ghost use Rattle.run_steps.specs.Stops.{StopsFor};
 ghost use Rattle.build_sources.specs.Handed.{HandsOn};
 ghost use Rattle.build_sources.specs.Meant.{meant_stand};
 ghost use Rattle.build_sources.specs.Partials.{AfterLoaded, AfterPartial, AfterPartials, Describes, load_at, partial_addresses};
@@ -13,8 +14,9 @@ use described::Loaded;
 use domain_bindings::{Domain, read_domains};
 use fdt_tree::Tree;
 use outside::Files;
-use run_steps::{Stop, join, read_tree};
+use run_steps::{Stop, join};
 use std::alloc::{AllocError, Global};
+use tree_files::read_tree;
 
 // For so many guests partial trees are read.
 const GUEST_LIMIT: usize = 16;
@@ -29,9 +31,8 @@ pub fn read_partials<F: Files>(
     files: &mut F,
 ) -> Result<Vec<Option<Tree>>, Stop>
     ensures read { IfOk result (λ partials. Describes (F.held files.old) (option_copied folder.entry) (meant_stand stand.now) (description_of stand.now.tree stand.now.reserves stand.now.loads partials.items)) }
-    ensures stopped { IfErr result (λ stop. IsDue (AfterPartials (F.held files.old) (option_copied folder.entry) (meant_stand stand.now) nothing) (F.faults files.old, F.absents files.old, F.overlong files.old) (F.faults files.new, F.absents files.new, F.overlong files.new) stop) }
-    ensures grew { Grew (F.faults files.old, F.absents files.old, F.overlong files.old) (F.faults files.new, F.absents files.new, F.overlong files.new) }
-    ensures kept { F.held files.new ≡ F.held files.old }
+    ensures stopped { IfErr result (StopsFor F.counts files.old files.new (AfterPartials (F.held files.old) (option_copied folder.entry) (meant_stand stand.now) nothing)) }
+    ensures only_read { Reads F.held F.counts files.old files.new }
 {
     let addresses = find_addresses(alloc, &stand.tree)?;
     read_at(alloc, folder, stand.loads.as_slice(), &addresses, files)
@@ -70,9 +71,8 @@ fn read_at<F: Files>(
     files: &mut F,
 ) -> Result<Vec<Option<Tree>>, Stop>
     ensures read { IfOk result (λ partials. HandsOn (AfterEach (AfterPartial (F.held files.old) (option_copied folder.entry) loads.now) addresses.now) (trees_in partials.items)) }
-    ensures stopped { IfErr result (λ stop. IsDue (AfterEach (AfterPartial (F.held files.old) (option_copied folder.entry) loads.now) addresses.now nothing) (F.faults files.old, F.absents files.old, F.overlong files.old) (F.faults files.new, F.absents files.new, F.overlong files.new) stop) }
-    ensures grew { Grew (F.faults files.old, F.absents files.old, F.overlong files.old) (F.faults files.new, F.absents files.new, F.overlong files.new) }
-    ensures kept { F.held files.new ≡ F.held files.old }
+    ensures stopped { IfErr result (StopsFor F.counts files.old files.new (AfterEach (AfterPartial (F.held files.old) (option_copied folder.entry) loads.now) addresses.now nothing)) }
+    ensures only_read { Reads F.held F.counts files.old files.new }
 {
     let mut partials = Vec::new(alloc);
     for address in addresses {
@@ -93,9 +93,8 @@ fn read_partial<F: Files>(
     files: &mut F,
 ) -> Result<Option<Tree>, Stop>
     ensures read { IfOk result (λ partial. HandsOn (AfterPartial (F.held files.old) (option_copied folder.entry) loads.now address) (option_map (λ tree. tree.tree) partial)) }
-    ensures stopped { IfErr result (λ stop. IsDue (AfterPartial (F.held files.old) (option_copied folder.entry) loads.now address nothing) (F.faults files.old, F.absents files.old, F.overlong files.old) (F.faults files.new, F.absents files.new, F.overlong files.new) stop) }
-    ensures grew { Grew (F.faults files.old, F.absents files.old, F.overlong files.old) (F.faults files.new, F.absents files.new, F.overlong files.new) }
-    ensures kept { F.held files.new ≡ F.held files.old }
+    ensures stopped { IfErr result (StopsFor F.counts files.old files.new (AfterPartial (F.held files.old) (option_copied folder.entry) loads.now address nothing)) }
+    ensures only_read { Reads F.held F.counts files.old files.new }
 {
     match address {
         Some(address) => read_loaded(alloc, folder, find_load(loads, address), files),
@@ -111,9 +110,8 @@ fn read_loaded<F: Files>(
     files: &mut F,
 ) -> Result<Option<Tree>, Stop>
     ensures read { IfOk result (λ partial. HandsOn (AfterLoaded (F.held files.old) (option_copied folder.entry) (option_copied load.entry)) (option_map (λ tree. tree.tree) partial)) }
-    ensures stopped { IfErr result (λ stop. IsDue (AfterLoaded (F.held files.old) (option_copied folder.entry) (option_copied load.entry) nothing) (F.faults files.old, F.absents files.old, F.overlong files.old) (F.faults files.new, F.absents files.new, F.overlong files.new) stop) }
-    ensures grew { Grew (F.faults files.old, F.absents files.old, F.overlong files.old) (F.faults files.new, F.absents files.new, F.overlong files.new) }
-    ensures kept { F.held files.new ≡ F.held files.old }
+    ensures stopped { IfErr result (StopsFor F.counts files.old files.new (AfterLoaded (F.held files.old) (option_copied folder.entry) (option_copied load.entry) nothing)) }
+    ensures only_read { Reads F.held F.counts files.old files.new }
 {
     let Some(load) = load else {
         return Ok(None);

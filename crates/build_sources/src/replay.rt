@@ -1,10 +1,11 @@
 // A script that is run on a tree.
 ghost use Rattle.std.specs.Prelude.{◌≡◌, IfOk, IfErr, true, length};
 ghost use Rattle.std.specs.Option.{option_copied};
+ghost use Rattle.outside.specs.Reads.{Reads};
 ghost use Rattle.script_run.specs.Effect.{has_good_names, load_count};
 ghost use Rattle.run_steps.specs.Steps.{nothing};
-ghost use Rattle.run_steps.specs.Stops.{IsDue, IsOwnDue, Grew};
-ghost use Rattle.run_steps.specs.Trees.{flat_tree};
+ghost use Rattle.run_steps.specs.Stops.{StopsFor, IsOwnDue};
+ghost use Rattle.tree_files.specs.Trees.{flat_tree};
 ghost use Rattle.build_sources.specs.Handed.{HandsOn};
 ghost use Rattle.build_sources.specs.Meant.{meant_stand};
 ghost use Rattle.build_sources.specs.PrivateReplays.{AfterScriptRead, AfterTreeRead, AfterSized};
@@ -15,9 +16,10 @@ use crate::script::{read_script, run_script};
 use crate::stand::Stand;
 use ib_script::Command;
 use outside::Files;
-use run_steps::{Stop, TreeFile, read_tree};
+use run_steps::Stop;
 use std::alloc::Global;
 use texts::{Bytes, List};
+use tree_files::{TreeFile, read_tree};
 
 /// What a build stands on that begins with a script and the tree that it is run on; its files are in a folder where one is
 /// given.
@@ -29,9 +31,8 @@ pub(crate) fn replay<F: Files>(
     files: &mut F,
 ) -> Result<Stand, Stop>
     ensures stands { IfOk result (λ stand. HandsOn (AfterReplay (F.held files.old) script.now tree.now (option_copied folder.entry)) (meant_stand stand)) }
-    ensures stopped { IfErr result (λ stop. IsDue (AfterReplay (F.held files.old) script.now tree.now (option_copied folder.entry) nothing) (F.faults files.old, F.absents files.old, F.overlong files.old) (F.faults files.new, F.absents files.new, F.overlong files.new) stop) }
-    ensures grew { Grew (F.faults files.old, F.absents files.old, F.overlong files.old) (F.faults files.new, F.absents files.new, F.overlong files.new) }
-    ensures kept { F.held files.new ≡ F.held files.old }
+    ensures stopped { IfErr result (StopsFor F.counts files.old files.new (AfterReplay (F.held files.old) script.now tree.now (option_copied folder.entry) nothing)) }
+    ensures only_read { Reads F.held F.counts files.old files.new }
 {
     let commands = read_script(alloc, script, files)?;
     replay_commands(alloc, script, &commands, tree, folder, files)
@@ -48,9 +49,8 @@ fn replay_commands<F: Files>(
 ) -> Result<Stand, Stop>
     requires { has_good_names commands.now ≡ true }
     ensures stands { IfOk result (λ stand. HandsOn (AfterScriptRead (F.held files.old) script.now tree.now (option_copied folder.entry) commands.now) (meant_stand stand)) }
-    ensures stopped { IfErr result (λ stop. IsDue (AfterScriptRead (F.held files.old) script.now tree.now (option_copied folder.entry) commands.now nothing) (F.faults files.old, F.absents files.old, F.overlong files.old) (F.faults files.new, F.absents files.new, F.overlong files.new) stop) }
-    ensures grew { Grew (F.faults files.old, F.absents files.old, F.overlong files.old) (F.faults files.new, F.absents files.new, F.overlong files.new) }
-    ensures kept { F.held files.new ≡ F.held files.old }
+    ensures stopped { IfErr result (StopsFor F.counts files.old files.new (AfterScriptRead (F.held files.old) script.now tree.now (option_copied folder.entry) commands.now nothing)) }
+    ensures only_read { Reads F.held F.counts files.old files.new }
 {
     let file = read_tree(alloc, tree, files)?;
     replay_on(alloc, script, commands, folder, file, files)
@@ -67,9 +67,8 @@ fn replay_on<F: Files>(
 ) -> Result<Stand, Stop>
     requires { has_good_names commands.now ≡ true }
     ensures stands { IfOk result (λ stand. HandsOn (AfterTreeRead (F.held files.old) script.now (option_copied folder.entry) commands.now (flat_tree file)) (meant_stand stand)) }
-    ensures stopped { IfErr result (λ stop. IsDue (AfterTreeRead (F.held files.old) script.now (option_copied folder.entry) commands.now (flat_tree file) nothing) (F.faults files.old, F.absents files.old, F.overlong files.old) (F.faults files.new, F.absents files.new, F.overlong files.new) stop) }
-    ensures grew { Grew (F.faults files.old, F.absents files.old, F.overlong files.old) (F.faults files.new, F.absents files.new, F.overlong files.new) }
-    ensures kept { F.held files.new ≡ F.held files.old }
+    ensures stopped { IfErr result (StopsFor F.counts files.old files.new (AfterTreeRead (F.held files.old) script.now (option_copied folder.entry) commands.now (flat_tree file) nothing)) }
+    ensures only_read { Reads F.held F.counts files.old files.new }
 {
     let sizes = measure_loads(alloc, folder, commands, file.length, files)?;
     replay_sized(alloc, script, commands, &sizes, file)

@@ -1,9 +1,10 @@
 // A boot script: reading one, and running it on a tree.
 ghost use Rattle.std.specs.Prelude.{◌≡◌, IfOk, IfErr, Ok, true, length};
+ghost use Rattle.outside.specs.Reads.{Reads};
 ghost use Rattle.script_run.specs.Effect.{has_good_names, load_count, loads_of, tree_effect};
 ghost use Rattle.script_run.specs.Reading.{commands_of};
 ghost use Rattle.run_steps.specs.Steps.{OnResult, nothing};
-ghost use Rattle.run_steps.specs.Stops.{IsDue, IsOwnDue, Grew};
+ghost use Rattle.run_steps.specs.Stops.{StopsFor, IsOwnDue};
 ghost use Rattle.build_sources.specs.Handed.{HandsOn};
 ghost use Rattle.build_sources.specs.Sources.{IsLineRefusal, AfterScriptFile, AfterRun};
 
@@ -28,9 +29,8 @@ pub(crate) fn read_script<F: Files>(
 ) -> Result<List<Command>, Stop>
     ensures read { IfOk result (HandsOn (AfterScriptFile (F.held files.old) name.now)) }
     ensures named { IfOk result (λ commands. has_good_names commands ≡ true) }
-    ensures stopped { IfErr result (λ stop. IsDue (AfterScriptFile (F.held files.old) name.now nothing) (F.faults files.old, F.absents files.old, F.overlong files.old) (F.faults files.new, F.absents files.new, F.overlong files.new) stop) }
-    ensures grew { Grew (F.faults files.old, F.absents files.old, F.overlong files.old) (F.faults files.new, F.absents files.new, F.overlong files.new) }
-    ensures kept { F.held files.new ≡ F.held files.old }
+    ensures stopped { IfErr result (StopsFor F.counts files.old files.new (AfterScriptFile (F.held files.old) name.now nothing)) }
+    ensures only_read { Reads F.held F.counts files.old files.new }
 {
     let bytes = read_file(alloc, name, SCRIPT_LIMIT, files)?;
     said(alloc, name, &bytes)

@@ -1,10 +1,11 @@
 // Where a build begins.
 ghost use Rattle.std.specs.Prelude.{◌≡◌, IfOk, IfErr, true, length};
 ghost use Rattle.std.specs.Option.{option_copied};
+ghost use Rattle.outside.specs.Reads.{Reads};
 ghost use Rattle.script_run.specs.Effect.{has_good_names, load_count};
 ghost use Rattle.dom0less_words.specs.Meant.{meant_source};
 ghost use Rattle.run_steps.specs.Steps.{nothing};
-ghost use Rattle.run_steps.specs.Stops.{IsDue, IsOwnDue, Grew};
+ghost use Rattle.run_steps.specs.Stops.{StopsFor, IsOwnDue};
 ghost use Rattle.build_sources.specs.Edited.{HasEditedTree, StandsOnEdited};
 ghost use Rattle.build_sources.specs.Handed.{HandsOn};
 ghost use Rattle.build_sources.specs.Meant.{meant_made, meant_stand};
@@ -18,9 +19,10 @@ use crate::stand::Stand;
 use dom0less_words::Source;
 use ib_script::LoadKind;
 use outside::Files;
-use run_steps::{Stop, read_tree};
+use run_steps::Stop;
 use std::alloc::Global;
 use texts::{Bytes, List};
+use tree_files::read_tree;
 
 /// The folder of the files that a configuration or a script names, where one is given.
 pub fn folder_of<'a>(source: &Source<'a>) -> Option<&'a str>
@@ -44,9 +46,8 @@ pub fn read_source<F: Files>(
 ) -> Result<Stand, Stop>
     ensures stands { IfOk result (λ stand. StandsOn (F.held files.old) (meant_source source.now) (option_copied outputs.entry) (meant_stand stand)) }
     ensures edited { IfOk result (λ stand. HasEditedTree (F.held files.old) (meant_source source.now) (option_copied outputs.entry) (meant_stand stand)) }
-    ensures stopped { IfErr result (λ stop. IsDue (AfterSource (F.held files.old) (meant_source source.now) (option_copied outputs.entry) nothing) (F.faults files.old, F.absents files.old, F.overlong files.old) (F.faults files.new, F.absents files.new, F.overlong files.new) stop) }
-    ensures grew { Grew (F.faults files.old, F.absents files.old, F.overlong files.old) (F.faults files.new, F.absents files.new, F.overlong files.new) }
-    ensures kept { F.held files.new ≡ F.held files.old }
+    ensures stopped { IfErr result (StopsFor F.counts files.old files.new (AfterSource (F.held files.old) (meant_source source.now) (option_copied outputs.entry) nothing)) }
+    ensures only_read { Reads F.held F.counts files.old files.new }
 {
     match *source {
         Source::Config(config, folder, kind) => {
@@ -69,9 +70,8 @@ fn read_configuration<F: Files>(
 ) -> Result<Stand, Stop>
     ensures stands { IfOk result (λ stand. HandsOn (AfterConfigured (F.held files.old) config.now (option_copied folder.entry) kind (option_copied outputs.entry)) (meant_stand stand)) }
     ensures edited { IfOk result (λ stand. StandsOnEdited (F.held files.old) config.now (option_copied folder.entry) kind (option_copied outputs.entry) (meant_stand stand)) }
-    ensures stopped { IfErr result (λ stop. IsDue (AfterConfigured (F.held files.old) config.now (option_copied folder.entry) kind (option_copied outputs.entry) nothing) (F.faults files.old, F.absents files.old, F.overlong files.old) (F.faults files.new, F.absents files.new, F.overlong files.new) stop) }
-    ensures grew { Grew (F.faults files.old, F.absents files.old, F.overlong files.old) (F.faults files.new, F.absents files.new, F.overlong files.new) }
-    ensures kept { F.held files.new ≡ F.held files.old }
+    ensures stopped { IfErr result (StopsFor F.counts files.old files.new (AfterConfigured (F.held files.old) config.now (option_copied folder.entry) kind (option_copied outputs.entry) nothing)) }
+    ensures only_read { Reads F.held F.counts files.old files.new }
 {
     let made = make_script(alloc, config, folder, kind, files)?;
     run_made(alloc, outputs, made)
@@ -110,9 +110,8 @@ fn run_made(alloc: Global, outputs: Option<&str>, made: Made) -> Result<Stand, S
 /// What a build stands on that begins with a ready tree.
 fn read_ready<F: Files>(alloc: Global, tree: &str, files: &mut F) -> Result<Stand, Stop>
     ensures stands { IfOk result (λ stand. HandsOn (AfterReady (F.held files.old) tree.now) (meant_stand stand)) }
-    ensures stopped { IfErr result (λ stop. IsDue (AfterReady (F.held files.old) tree.now nothing) (F.faults files.old, F.absents files.old, F.overlong files.old) (F.faults files.new, F.absents files.new, F.overlong files.new) stop) }
-    ensures grew { Grew (F.faults files.old, F.absents files.old, F.overlong files.old) (F.faults files.new, F.absents files.new, F.overlong files.new) }
-    ensures kept { F.held files.new ≡ F.held files.old }
+    ensures stopped { IfErr result (StopsFor F.counts files.old files.new (AfterReady (F.held files.old) tree.now nothing)) }
+    ensures only_read { Reads F.held F.counts files.old files.new }
 {
     let flat = read_tree(alloc, tree, files)?.flat;
     Ok(Stand {

@@ -1,4 +1,4 @@
--- Where the words and the files call for `Read`, a file is not there: each step refuses with `Read` only so, where what follows does.
+-- Where the words and the files call for `Read`, a file is not there: each step refuses with `Read` only so, where what follows does. And no step finds a list.
 use Rattle.std.proofs.Common.{◌≡◌, ◌∙◌, refl, sym, subst, arith, ℕ, Bool, List, [], ◌∷◌, ◌++◌, map, codes, Some, None, inl, inr}
 use Rattle.std.specs.Prelude.{⊤, Option, Result, Ok, Err}
 use Rattle.outside.specs.Outside.{File, Rose}
@@ -26,9 +26,9 @@ use Rattle.domain_plan.specs.Descriptions.{Description}
 use Rattle.domain_plan.specs.TreePlans.{plan_of}
 use Rattle.run_steps.specs.Messages.{file_message}
 use Rattle.run_steps.specs.Names.{joined}
-use Rattle.run_steps.specs.Endings.{Outcome, Refuses, Builds}
-use Rattle.run_steps.specs.Steps.{IsRefusal, IsWriting, OnResult, OnOption, IsReading, IsReadRefusal, AfterReading, IsSize, AfterSize, AfterSizes, AfterEach}
-use Rattle.run_steps.specs.Trees.{FlatTree, AfterTree, AfterTreeFile, tree_limit}
+use Rattle.run_steps.specs.Endings.{Outcome, Refuses, Builds, Finds, Fails}
+use Rattle.run_steps.specs.Steps.{IsRefusal, IsWriting, OnResult, OnOption, IsReading, IsReadRefusal, AfterReading, IsSize, OrFails, AfterSize, AfterSizes, AfterEach}
+use Rattle.tree_files.specs.Trees.{FlatTree, AfterTree, AfterTreeFile, tree_limit}
 use Rattle.run_steps.proofs.Step.{Next, hand_on}
 use Rattle.dom0less_words.specs.Words.{Word, Source, Config, Replay, Ready, Asked, Build, Check, Script, Show, Generate}
 use Rattle.dom0less_words.specs.Settings.{settings}
@@ -45,10 +45,12 @@ use Rattle.dom0less.specs.Generated.{generated_description}
 use Rattle.dom0less.specs.Job.{IsScriptWriting, IsAskedJob, IsSettingsJob, CallsFor}
 use Rattle.dom0less.specs.Laws.{IsAbsence, IsReadOfAbsent}
 
--- where it refuses with `Read`, an outcome says that a file is not there
+-- an outcome is no list, and where it refuses with `Read`, it says that a file is not there
 abbrev SaysAbsence : Outcome → Type 0
 SaysAbsence (Refuses status message) = status ≡ statuses.Read → IsAbsence message
 SaysAbsence (Builds outputs report) = ⊤
+SaysAbsence (Finds status list) = ⊥
+SaysAbsence (Fails name) = ⊤
 
 -- so does each outcome that is called for
 abbrev Tells : (Outcome → Type 0) → Type 0
@@ -63,10 +65,14 @@ Leads {A} step = (next : Next A) → ((x : A) → Tells (next x)) → Tells (ste
 absence_tells : (name : List ℕ) → Tells (IsRefusal statuses.Read (file_message name (codes "not found")))
 absence_tells name (Refuses status message) p = λ is. (name, p.1)
 absence_tells name (Builds outputs report) p = elim p [ ]
+absence_tells name (Finds status list) p = elim p [ ]
+absence_tells name (Fails called) p = tt
 
 refusal_tells : (status : Status) (message : List ℕ) → (status ≡ statuses.Read → ⊥) → Tells (IsRefusal status message)
 refusal_tells status message other (Refuses s m) p = λ is. absurd (other (sym p.0 ∙ is))
 refusal_tells status message other (Builds outputs report) p = elim p [ ]
+refusal_tells status message other (Finds s list) p = elim p [ ]
+refusal_tells status message other (Fails name) p = tt
 
 refused_tells : (message : List ℕ) → Tells (IsRefusal statuses.Refused message)
 refused_tells message = refusal_tells statuses.Refused message (λ e. cc)
@@ -83,6 +89,8 @@ differs_tells message = refusal_tells statuses.Differs message (λ e. cc)
 writing_tells : (outputs : List File) (report : List ℕ) → Tells (IsWriting outputs report)
 writing_tells outputs report (Builds o r) p = tt
 writing_tells outputs report (Refuses s m) p = elim p [ ]
+writing_tells outputs report (Finds s list) p = elim p [ ]
+writing_tells outputs report (Fails name) p = tt
 
 never_tells : Tells (λ outcome. ⊥)
 never_tells outcome p = elim p [ ]
@@ -105,6 +113,10 @@ on_option_leads refusal one None = λ next tells. one
 
 asked_leads : {R A : Type 0} (Is : R → Type 0) (on : R → Next A → Outcome → Type 0) → ((r : R) → Leads (on r)) → Leads (λ (next : Next A) outcome. (r : R) × Is r × on r next outcome)
 asked_leads Is on law next tells outcome p = law p.0 next tells outcome p.2
+
+may_fail_leads : {A : Type 0} (name : List ℕ) (step : Next A → Outcome → Type 0) → Leads step → Leads (λ next outcome. OrFails name (step next outcome) outcome)
+may_fail_leads name step law next tells outcome (inl fails) = subst SaysAbsence (sym fails) tt
+may_fail_leads name step law next tells outcome (inr p) = law next tells outcome p
 
 each_leads : {A B : Type 0} (step : A → Next B → Outcome → Type 0) → ((x : A) → Leads (step x)) → (xs : List A) → Leads (AfterEach step xs)
 each_leads step each [] = hand_on_leads []
@@ -147,12 +159,13 @@ unless_found_tells name next tells (Some text) = differs_tells _
 module _ (told : Option (List File)) where
   reading_leads : (name : List ℕ) (limit : ℕ) → Leads (AfterReading told name limit)
   reading_leads name limit =
-      asked_leads (IsReading told name limit) (λ result next. OnResult (IsReadRefusal name limit) next result) (on_result_leads (IsReadRefusal name limit) (read_refusals_tell name limit))
+      may_fail_leads name _ (asked_leads (IsReading told name limit) (λ result next. OnResult (IsReadRefusal name limit) next result)
+      (on_result_leads (IsReadRefusal name limit) (read_refusals_tell name limit)))
 
   size_leads : (name : List ℕ) → Leads (AfterSize told name)
   size_leads name =
-      asked_leads (IsSize told name) (λ size next. OnOption (IsRefusal statuses.Read (file_message name (codes "not found"))) next size)
-      (on_option_leads (IsRefusal statuses.Read (file_message name (codes "not found"))) (absence_tells name))
+      may_fail_leads name _ (asked_leads (IsSize told name) (λ size next. OnOption (IsRefusal statuses.Read (file_message name (codes "not found"))) next size)
+      (on_option_leads (IsRefusal statuses.Read (file_message name (codes "not found"))) (absence_tells name)))
 
   sizes_lead : (names : List (List ℕ)) → Leads (AfterSizes told names)
   sizes_lead names = each_leads (AfterSize told) size_leads names
@@ -259,10 +272,10 @@ module _ (told : Option (List File)) where
 pub read_of_absent : IsReadOfAbsent
 read_of_absent words told message called = settings_tell told (settings words) (Refuses statuses.Read message) called refl
 
--- the same, where the status is known to be `Read`
+-- no list is called for
+pub nothing_found : (words : List (List ℕ)) (told : Option (List File)) (status : Status) (list : List ℕ) → CallsFor words told (Finds status list) → ⊥
+nothing_found words told status list called = settings_tell told (settings words) (Finds status list) called
+
+-- the same as of `Read`, where the status is known to be that
 pub names_absent : (words : List (List ℕ)) (told : Option (List File)) (status : Status) (message : List ℕ) → status ≡ statuses.Read → CallsFor words told (Refuses status message) → IsAbsence message
 names_absent words told status message is called = read_of_absent words told message (subst (λ (s : Status). CallsFor words told (Refuses s message)) is called)
-
--- a count that is 0 always does not rise
-pub never_rises : Rose 0 0 → ⊥
-never_rises rose = absurd (omega arith)

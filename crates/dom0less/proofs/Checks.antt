@@ -2,6 +2,7 @@
 use Rattle.std.proofs.Common.{◌≡◌, refl, sym, ap, subst, ℕ, List, [], length}
 use Rattle.std.specs.Prelude.{Option, Result, Ok, Err, IfOk, IfErr}
 use Rattle.outside.specs.Outside.{File}
+use Rattle.outside.specs.Reads.{Counts, Grew}
 use Rattle.item_checks.specs.Refusals.{Refusal}
 use Rattle.item_checks.specs.declared.faults.PlanFault.{PlanFault}
 use Rattle.item_checks.specs.declared.faults.PlanFault.TheVariants as plan_faults
@@ -9,11 +10,11 @@ use Rattle.domain_plan.specs.Apart.{ArePlannedApart}
 use Rattle.image_audit.specs.Audits.{AfterAudits, FindsNothing}
 use Rattle.image_audit.specs.Texts.{checked_line}
 use Rattle.image_audit.proofs.AuditSteps.{audits_step}
-use Rattle.run_steps.specs.Endings.{Outcome, Refuses, Builds}
+use Rattle.run_steps.specs.Endings.{Outcome, Refuses, Builds, Finds, Fails}
 use Rattle.run_steps.specs.Outputs.{report_of}
 use Rattle.run_steps.specs.PrivateOutcomes.{outcome_of}
 use Rattle.run_steps.specs.Steps.{OnResult, nothing}
-use Rattle.run_steps.specs.Stops.{Counts, Grew, IsDue, IsOwnDue}
+use Rattle.run_steps.specs.Stops.{IsDue, IsOwnDue}
 use Rattle.run_steps.specs.declared.output.Build.{Build}
 use Rattle.run_steps.specs.declared.stop.Stop.{Stop}
 use Rattle.run_steps.specs.declared.stop.Stop.TheVariants as stops
@@ -33,13 +34,15 @@ use Rattle.dom0less.specs.Headline.{IsPlanAudited, IsDescribedAudit}
 abbrev said_in : Outcome → List ℕ
 said_in (Builds outputs report) = report
 said_in (Refuses status message) = []
+said_in (Finds status list) = []
+said_in (Fails name) = []
 
 pub put_report : (build : Build) (text : List ℕ) → outcome_of build ≡ Builds [] text → report_of build ≡ text
 put_report build text is = ap said_in is
 
 -- the plan of what is described is a step
 plan_step : (description : Description) → IsStep (λ plan. plan_of description ≡ Ok plan) (λ next outcome. OnResult IsItemRefusal next (plan_of description) outcome)
-plan_step description = on_result_step IsItemRefusal (λ fault outputs report p. p) (plan_of description)
+plan_step description = on_result_step IsItemRefusal (λ fault outputs report p. p) (λ fault status list p. p) (plan_of description)
 
 module _ (told : Option (List File)) (folder : Option Word) (description : Description) where
   -- the stop where there is no plan

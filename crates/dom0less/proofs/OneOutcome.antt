@@ -1,9 +1,12 @@
--- The words and files that tell what they hold call for one outcome.
+-- The words and files that tell what they hold call for one outcome; words that are refused call for none.
 use Rattle.std.proofs.Common.{List, Some, None}
-use Rattle.std.specs.Prelude.{Option}
+use Rattle.std.specs.Prelude.{Option, IsNone}
 use Rattle.outside.specs.Outside.{File}
+use Rattle.run_steps.specs.Endings.{Outcome}
 use Rattle.run_steps.specs.Laws.{IsDetermined}
-use Rattle.run_steps.proofs.OneOutcome.{on_result_decides, refusals_agree, writings_agree, never_agrees, tree_file_decides}
+use Rattle.run_steps.proofs.OneOutcome.{on_result_decides, refusals_agree, writings_agree, never_agrees}
+use Rattle.tree_files.proofs.TreeSteps.{tree_file_decides}
+use Rattle.program.specs.Laws.{IsOneOutcome, AsksNothing}
 use Rattle.domain_plan.specs.Descriptions.{Description}
 use Rattle.domain_plan.specs.TreePlans.{plan_of}
 use Rattle.image_audit.proofs.AuditSteps.{audits_decide}
@@ -15,8 +18,7 @@ use Rattle.build_outputs.specs.Builds.{IsItemRefusal, built_of}
 use Rattle.dom0less.specs.Builds.{IsPlanWriting, IsDescribedJob, IsStandJob}
 use Rattle.dom0less.specs.Checks.{IsCheckedWriting, IsPlanCheck, IsDescribedCheck, IsStandCheck}
 use Rattle.dom0less.specs.Generated.{generated_description, IsTotalsWriting}
-use Rattle.dom0less.specs.Job.{IsScriptWriting, IsAskedJob, IsSettingsJob}
-use Rattle.dom0less.specs.Laws.{IsOneOutcome}
+use Rattle.dom0less.specs.Job.{IsScriptWriting, IsAskedJob, IsSettingsJob, AreRefused, CallsFor}
 
 -- what is described
 described_agree : (folder : Option Word) (stand : Stand) (description : Description) → IsDetermined (IsDescribedJob folder stand description)
@@ -49,5 +51,16 @@ module _ (held : List File) where
   settings_agree (Some asked) = asked_agree asked
 
 -- no words and files call for two outcomes that differ
-pub one_outcome : IsOneOutcome
+pub one_outcome : IsOneOutcome CallsFor
 one_outcome words held = settings_agree held (settings words)
+
+never_none : (asked : Asked) → IsNone (Some asked) → ⊥
+never_none asked none = cc
+
+none_job : (told : Option (List File)) (asked : Option Asked) (outcome : Outcome) → IsNone asked → IsSettingsJob told asked outcome → ⊥
+none_job told None outcome none job = job
+none_job told (Some asked) outcome none job = absurd (never_none asked none)
+
+-- words that are refused call for nothing
+pub asks_nothing : AsksNothing AreRefused CallsFor
+asks_nothing words text told outcome refused job = none_job told (settings words) outcome refused.0 job

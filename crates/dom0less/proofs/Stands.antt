@@ -2,11 +2,12 @@
 use Rattle.std.proofs.Common.{◌≡◌, sym, ap, subst, ℕ, List, ◌++◌}
 use Rattle.std.specs.Prelude.{Option, Result, Ok, Err, IfOk, IfErr}
 use Rattle.outside.specs.Outside.{File}
+use Rattle.outside.specs.Reads.{Counts, Grew}
 use Rattle.run_steps.specs.Endings.{Outcome, Builds}
 use Rattle.run_steps.specs.Outputs.{files_of, report_of}
 use Rattle.run_steps.specs.PrivateOutcomes.{outcome_of}
 use Rattle.run_steps.specs.Steps.{nothing}
-use Rattle.run_steps.specs.Stops.{Counts, Grew, IsDue, IsOwnDue}
+use Rattle.run_steps.specs.Stops.{IsDue, IsOwnDue}
 use Rattle.run_steps.specs.declared.output.Build.{Build}
 use Rattle.run_steps.specs.declared.stop.Stop.{Stop}
 use Rattle.run_steps.proofs.Due.{due_here, own_due, stopped_later, stopped_anyway}
@@ -25,7 +26,7 @@ use Rattle.dom0less.specs.Headline.{IsStandBuild, IsDescribedBuild}
 
 -- what is described is a step: its first refused item, or its plan
 pub items_step : (boot : ℕ) (description : Description) → IsStep (λ plan. built_of boot description ≡ Ok plan) (AfterItems boot description)
-items_step boot description = on_result_step IsItemRefusal (λ fault outputs report p. p) (built_of boot description)
+items_step boot description = on_result_step IsItemRefusal (λ fault outputs report p. p) (λ fault status list p. p) (built_of boot description)
 
 module _ (folder : Option Word) (stand : Stand) (description : Description) where
   -- the files and the report of a build are those that the plan calls for

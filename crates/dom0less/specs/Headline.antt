@@ -7,8 +7,8 @@ use Rattle.outside.specs.declared.status.Status.TheVariants as statuses
 use Rattle.run_steps.specs.Endings.{Refuses}
 use Rattle.run_steps.specs.Steps.{nothing}
 use Rattle.build_sources.specs.Configs.{AfterMade}
-use Rattle.run_steps.specs.Messages.{refused_message}
-use Rattle.run_steps.specs.Trees.{FlatTree, IsTreeFile}
+use Rattle.described.specs.Items.{refusal_text}
+use Rattle.tree_files.specs.Trees.{FlatTree, IsTreeFile}
 use Rattle.guest_images.specs.Walks.{AllWalk, MeetOnlyIn, AreApart}
 use Rattle.image_audit.specs.Audits.{AreAudited}
 use Rattle.image_audit.specs.Texts.{checked_line}
@@ -49,7 +49,7 @@ pub record NamesFirstRefused (told : Option (List File)) (source : Source) (fold
   pub described : Describes told (folder_of source) stand description
   pub refusal : Refusal
   pub first : built_of stand.boot description ≡ Err refusal
-  pub named : message ≡ refused_message refusal.0 refusal.1
+  pub named : message ≡ refusal_text refusal.0 refusal.1
 
 -- the bytes are the listing of the tree of that name
 pub record IsListing (told : Option (List File)) (name : List ℕ) (text : List ℕ) : Type 0 where

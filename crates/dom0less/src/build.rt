@@ -6,7 +6,7 @@ ghost use Rattle.fdt_read.specs.Reservations.{is_last_pair};
 ghost use Rattle.dom0less_words.specs.Meant.{meant_source};
 ghost use Rattle.run_steps.specs.Outputs.{file_of, files_of, report_of};
 ghost use Rattle.run_steps.specs.PrivateOutcomes.{outcome_of};
-ghost use Rattle.run_steps.specs.Stops.{IsDue, IsOwnDue};
+ghost use Rattle.run_steps.specs.Stops.{StopsFor, IsOwnDue};
 ghost use Rattle.domain_plan.specs.Descriptions.{description_of};
 ghost use Rattle.build_sources.specs.Meant.{meant_stand};
 ghost use Rattle.dom0less.specs.Builds.{IsBuildJob, IsDescribedJob};
@@ -15,6 +15,7 @@ ghost use Rattle.dom0less.specs.Headline.{IsDescribedBuild, IsStandBuild};
 use build_outputs::{Built, build_described};
 use build_sources::{Stand, folder_of, read_partials, read_source};
 use dom0less_words::Source;
+use domain_plan::plan_tree;
 use fdt_tree::Tree;
 use outside::Files;
 use run_steps::{Build, Output, Stop};
@@ -30,7 +31,7 @@ pub(crate) fn prepare_build<F: Files>(
 ) -> Result<Build, Stop>
     ensures built { IfOk result (λ build. IsBuildJob (F.held files.old) (meant_source source.now) (option_copied folder.entry) (outcome_of build)) }
     ensures promised { IfOk result (λ build. IsDescribedBuild (F.held files.old) (meant_source source.now) (option_copied folder.entry) (files_of build) (report_of build)) }
-    ensures stopped { IfErr result (λ stop. IsDue (IsBuildJob (F.held files.old) (meant_source source.now) (option_copied folder.entry)) (F.faults files.old, F.absents files.old, F.overlong files.old) (F.faults files.new, F.absents files.new, F.overlong files.new) stop) }
+    ensures stopped { IfErr result (StopsFor F.counts files.old files.new (IsBuildJob (F.held files.old) (meant_source source.now) (option_copied folder.entry))) }
     ensures kept { F.held files.new ≡ F.held files.old }
 {
     let stand = match read_source(alloc, source, folder, files) {

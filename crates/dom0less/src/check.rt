@@ -4,7 +4,7 @@ ghost use Rattle.std.specs.Option.{option_copied};
 ghost use Rattle.dom0less_words.specs.Meant.{meant_source};
 ghost use Rattle.run_steps.specs.Outputs.{files_of, report_of};
 ghost use Rattle.run_steps.specs.PrivateOutcomes.{outcome_of};
-ghost use Rattle.run_steps.specs.Stops.{IsDue};
+ghost use Rattle.run_steps.specs.Stops.{StopsFor};
 ghost use Rattle.domain_plan.specs.Descriptions.{description_of};
 ghost use Rattle.run_steps.specs.Endings.{Builds};
 ghost use Rattle.image_audit.specs.Texts.{checked_line};
@@ -33,7 +33,7 @@ pub(crate) fn prepare_check<F: Files>(
     ensures built { IfOk result (λ build. IsCheckJob (F.held files.old) (meant_source source.now) (option_copied folder.entry) (outcome_of build)) }
     ensures outputs { IfOk result (λ build. files_of build ≡ []) }
     ensures promised { IfOk result (λ build. IsDescribedAudit (F.held files.old) (meant_source source.now) (option_copied folder.entry) (report_of build)) }
-    ensures stopped { IfErr result (λ stop. IsDue (IsCheckJob (F.held files.old) (meant_source source.now) (option_copied folder.entry)) (F.faults files.old, F.absents files.old, F.overlong files.old) (F.faults files.new, F.absents files.new, F.overlong files.new) stop) }
+    ensures stopped { IfErr result (StopsFor F.counts files.old files.new (IsCheckJob (F.held files.old) (meant_source source.now) (option_copied folder.entry))) }
     ensures kept { F.held files.new ≡ F.held files.old }
 {
     let stand = match read_source(alloc, source, folder, files) {
@@ -58,7 +58,7 @@ fn audit_described<F: Files>(
     ensures built { IfOk result (λ build. IsDescribedCheck (F.held files.old) (option_copied folder.entry) (description_of stand.now.tree stand.now.reserves stand.now.loads partials.now) (outcome_of build)) }
     ensures outputs { IfOk result (λ build. files_of build ≡ []) }
     ensures promised { IfOk result (λ build. IsPlanAudited (F.held files.old) (option_copied folder.entry) (description_of stand.now.tree stand.now.reserves stand.now.loads partials.now) (report_of build)) }
-    ensures stopped { IfErr result (λ stop. IsDue (IsDescribedCheck (F.held files.old) (option_copied folder.entry) (description_of stand.now.tree stand.now.reserves stand.now.loads partials.now)) (F.faults files.old, F.absents files.old, F.overlong files.old) (F.faults files.new, F.absents files.new, F.overlong files.new) stop) }
+    ensures stopped { IfErr result (StopsFor F.counts files.old files.new (IsDescribedCheck (F.held files.old) (option_copied folder.entry) (description_of stand.now.tree stand.now.reserves stand.now.loads partials.now))) }
     ensures kept { F.held files.new ≡ F.held files.old }
 {
     let plan = match plan_tree(

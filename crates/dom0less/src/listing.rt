@@ -1,16 +1,18 @@
 // The listing of a tree.
-ghost use Rattle.std.specs.Prelude.{◌≡◌, IfErr, IfOk};
+ghost use Rattle.std.specs.Prelude.{◌≡◌, IfErr, IfOk, []};
 ghost use Rattle.run_steps.specs.Outputs.{files_of, report_of};
 ghost use Rattle.run_steps.specs.PrivateOutcomes.{outcome_of};
-ghost use Rattle.run_steps.specs.Stops.{IsDue};
-ghost use Rattle.run_steps.specs.Trees.{AfterTreeFile, flat_tree};
+ghost use Rattle.run_steps.specs.Stops.{StopsFor};
+ghost use Rattle.tree_files.specs.Trees.{AfterTreeFile, flat_tree};
+ghost use Rattle.dom0less.specs.Headline.{IsListing};
 ghost use Rattle.dom0less.specs.Job.{IsTreeListing};
 
 use fdt_listing::list;
 use outside::Files;
-use run_steps::{Build, Stop, TreeFile, read_tree};
+use run_steps::{Build, Stop};
 use std::alloc::{AllocError, Global};
 use texts::{Bytes, List};
+use tree_files::{TreeFile, read_tree};
 
 /// What is put for the tree of this file, where it is to be listed.
 pub(crate) fn prepare_listing<F: Files>(
@@ -19,7 +21,8 @@ pub(crate) fn prepare_listing<F: Files>(
     files: &mut F,
 ) -> Result<Build, Stop>
     ensures built { IfOk result (λ build. AfterTreeFile (F.held files.old) name.now IsTreeListing (outcome_of build)) }
-    ensures stopped { IfErr result (λ stop. IsDue (AfterTreeFile (F.held files.old) name.now IsTreeListing) (F.faults files.old, F.absents files.old, F.overlong files.old) (F.faults files.new, F.absents files.new, F.overlong files.new) stop) }
+    ensures promised { IfOk result (λ build. (files_of build ≡ []) × IsListing (F.held files.old) name.now (report_of build)) }
+    ensures stopped { IfErr result (StopsFor F.counts files.old files.new (AfterTreeFile (F.held files.old) name.now IsTreeListing)) }
     ensures kept { F.held files.new ≡ F.held files.old }
 {
     let tree = read_tree(alloc, name, files)?;

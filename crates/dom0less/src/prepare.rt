@@ -1,10 +1,11 @@
 // What a run makes before its first write.
 ghost use Rattle.std.specs.Prelude.{◌≡◌, ◌≤◌, IfErr, IfOk};
+ghost use Rattle.outside.specs.Reads.{Reads};
 ghost use Rattle.dom0less_words.specs.Meant.{meant};
 ghost use Rattle.run_steps.specs.Outputs.{files_of, report_of};
 ghost use Rattle.run_steps.specs.PrivateOutcomes.{outcome_of};
-ghost use Rattle.run_steps.specs.Stops.{IsDue};
-ghost use Rattle.dom0less.specs.PrivatePromises.{IsPromised};
+ghost use Rattle.run_steps.specs.Stops.{StopsFor};
+ghost use Rattle.dom0less.specs.Promises.{IsAskedPromise};
 ghost use Rattle.dom0less.specs.Job.{IsAskedJob};
 
 use crate::build::prepare_build;
@@ -25,8 +26,8 @@ pub(crate) fn prepare<F: Files>(
 ) -> Result<Build, Stop>
     requires { (number : _) → asked.now ≡ Asked.Generate number → number ≤ 1000000 }
     ensures built { IfOk result (λ build. IsAskedJob (F.held files.old) (meant asked.now) (outcome_of build)) }
-    ensures promised { IfOk result (λ build. IsPromised (F.held files.old) (meant asked.now) (files_of build) (report_of build)) }
-    ensures stopped { IfErr result (λ stop. IsDue (IsAskedJob (F.held files.old) (meant asked.now)) (F.faults files.old, F.absents files.old, F.overlong files.old) (F.faults files.new, F.absents files.new, F.overlong files.new) stop) }
+    ensures promised { IfOk result (λ build. IsAskedPromise (F.held files.old) (meant asked.now) (files_of build) (report_of build)) }
+    ensures stopped { IfErr result (StopsFor F.counts files.old files.new (IsAskedJob (F.held files.old) (meant asked.now))) }
     ensures kept { F.held files.new ≡ F.held files.old }
 {
     match asked {

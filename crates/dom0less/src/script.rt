@@ -2,10 +2,12 @@
 ghost use Rattle.std.specs.Prelude.{◌≡◌, IfErr, IfOk};
 ghost use Rattle.std.specs.Option.{option_copied};
 ghost use Rattle.dom0less_words.specs.Meant.{meant_script};
+ghost use Rattle.run_steps.specs.Outputs.{files_of, report_of};
 ghost use Rattle.run_steps.specs.PrivateOutcomes.{outcome_of};
-ghost use Rattle.run_steps.specs.Stops.{IsDue};
+ghost use Rattle.run_steps.specs.Stops.{StopsFor};
 ghost use Rattle.build_sources.specs.Meant.{meant_made};
 ghost use Rattle.dom0less.specs.Job.{IsScriptJob, IsScriptWriting};
+ghost use Rattle.dom0less.specs.Promises.{IsScripted};
 
 use build_sources::{Made, make_script};
 use dom0less_words::ScriptAsked;
@@ -21,7 +23,8 @@ pub(crate) fn prepare_script<F: Files>(
     files: &mut F,
 ) -> Result<Build, Stop>
     ensures built { IfOk result (λ build. IsScriptJob (F.held files.old) (meant_script ask.now) (outcome_of build)) }
-    ensures stopped { IfErr result (λ stop. IsDue (IsScriptJob (F.held files.old) (meant_script ask.now)) (F.faults files.old, F.absents files.old, F.overlong files.old) (F.faults files.new, F.absents files.new, F.overlong files.new) stop) }
+    ensures promised { IfOk result (λ build. IsScripted (F.held files.old) (meant_script ask.now) (files_of build) (report_of build)) }
+    ensures stopped { IfErr result (StopsFor F.counts files.old files.new (IsScriptJob (F.held files.old) (meant_script ask.now))) }
     ensures kept { F.held files.new ≡ F.held files.old }
 {
     let made = make_script(alloc, ask.config, ask.files, ask.kind, files)?;

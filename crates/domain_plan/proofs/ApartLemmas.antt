@@ -17,7 +17,7 @@ use Rattle.frame_alloc.proofs.AscendingFrames.{AreFrames-frames_in}
 use Rattle.item_checks.specs.declared.guests.Guest.{Guest}
 use Rattle.domain_bindings.specs.declared.host.Host.{Host}
 use Rattle.described.specs.declared.loaded.Loaded.{Loaded}
-use Rattle.frame_ranges.specs.Ranges.{holds}
+use Rattle.frame_alloc.specs.Ranges.{holds}
 use Rattle.item_checks.specs.Entries.{Entry, joined}
 use Rattle.item_checks.specs.Taken.{Passed, what_of, belongs_to, all_passed, passed_of}
 use Rattle.item_checks.specs.Reasons.{are_one_region}
@@ -28,7 +28,7 @@ use Rattle.domain_plan.specs.Arguments.{AreSound}
 use Rattle.domain_plan.specs.Regions.{Runs, requests, runs_drawn}
 use Rattle.domain_plan.specs.Plans.{Draws, and_heaps, draws_after, draws, outcome, unless_refused}
 use Rattle.domain_plan.specs.Apart.{is_in_one_region, MeetWhereShared}
-use Rattle.frame_ranges.proofs.CommonFrames.{true_or_false, not_both, or_tells, or_left, or_right}
+use Rattle.frame_alloc.proofs.CommonFrames.{true_or_false, not_both, or_tells, or_left, or_right}
 use Rattle.domain_plan.proofs.DrawLemmas.{AreDraws, heaps_tell}
 use Rattle.domain_plan.proofs.ClearLemmas.{IsClear, all_clear, one_region}
 use Rattle.domain_plan.proofs.MapLemmas.{IsMapped, item_tells, kind_of, IsMappedByItem, guest_tells}

@@ -11,14 +11,14 @@ use Rattle.described.specs.declared.item.What.TheVariants as whats
 use Rattle.described.specs.declared.why.Why.{Why}
 use Rattle.described.specs.declared.why.Why.TheVariants as whys
 use Rattle.domain_bindings.specs.declared.host.Host.{Host}
-use Rattle.frame_ranges.specs.Ranges.{holds, have_common}
+use Rattle.frame_alloc.specs.Ranges.{holds, have_common}
 use Rattle.item_checks.specs.Entries.{Entry}
 use Rattle.item_checks.specs.Taken.{Passed, item_of, what_of, belongs_to, passing, all_passed}
 use Rattle.item_checks.specs.Reasons.{naming_first, blocks, fills, not_ram, host_overlap, guest_overlap, layout, area_pages, layout_at, are_one_region, shm_twice, shm_differs, owner_twice}
 use Rattle.item_checks.specs.Refusals.{Refusal, why, or_later, first_refused, first_there, cross_reasons, reasons_by}
 use Rattle.described.specs.Sound.{IsSound, SoundUnless}
 use Rattle.domain_plan.specs.Arguments.{AreSound}
-use Rattle.frame_ranges.proofs.CommonFrames.{not_both, common_hits}
+use Rattle.frame_alloc.proofs.CommonFrames.{not_both, common_hits}
 
 -- an item that was passed, at its place: what it takes, and that nothing is against it; the items before it stand before it
 pub record IsClear (host : Host) (all : List Passed) (place : ℕ) (mine : Passed) (front : List Passed) : Type 0 where

@@ -9,10 +9,10 @@ use Rattle.frame_alloc.specs.Frames.{AreFrames, is_within, without, lowest_frame
 use Rattle.frame_alloc.proofs.FreeFrames.{is_in-without, lowest_frame-member, lowest_group-tells, AreFrames-without}
 use Rattle.item_checks.specs.declared.guests.Guest.{Guest}
 use Rattle.described.specs.declared.why.Why.TheVariants.{NoRam}
-use Rattle.frame_ranges.specs.Ranges.{holds}
+use Rattle.frame_alloc.specs.Ranges.{holds}
 use Rattle.item_checks.specs.Refusals.{Refusal}
 use Rattle.domain_plan.specs.Draws.{Drawn, Heaps, ◌>>=◌, groups_drawn, drawn, heaps, and_drawn, heap_item}
-use Rattle.frame_ranges.proofs.CommonFrames.{true_or_false, not_both, or_tells, within_bounds}
+use Rattle.frame_alloc.proofs.CommonFrames.{true_or_false, not_both, or_tells, within_bounds}
 
 -- what a draw takes was free, and the rest is left
 pub record IsDraw (free : List ℕ) (frames : List FrameRange) (left : List ℕ) : Type 0 where

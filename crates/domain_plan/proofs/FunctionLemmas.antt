@@ -9,12 +9,12 @@ use Rattle.described.specs.declared.map_range.Kind.{Kind}
 use Rattle.described.specs.declared.map_range.Kind.TheVariants.{Ram}
 use Rattle.frame_alloc.specs.Frames.{is_within}
 use Rattle.frame_alloc.proofs.Without.{is_within-in}
-use Rattle.frame_ranges.specs.Ranges.{holds}
+use Rattle.frame_alloc.specs.Ranges.{holds}
 use Rattle.item_checks.specs.Taken.{Passed, belongs_to, bank_pages, bank_size}
 use Rattle.domain_plan.specs.GuestMaps.{onto, laid, maps_of}
 use Rattle.domain_plan.specs.Apart.{IsMappedBy, IsFunction}
 pub use Rattle.domain_plan.specs.PrivateLaying.{AreApart}
-use Rattle.frame_ranges.proofs.CommonFrames.{not_both, or_tells, or_left, or_right, within_bounds, within_tells}
+use Rattle.frame_alloc.proofs.CommonFrames.{not_both, or_tells, or_left, or_right, within_bounds, within_tells}
 use Rattle.domain_plan.proofs.MapLemmas.{target_of-append, either_target, total, onto_tells, item_ranges, items_tell}
 
 one_target : (range : MapRange) (page : ℕ) (target : Target) → IsMappedBy range page target → (holds_page range page ≡ true) × (record { frame = range.first + (page - range.page); kind = range.kind } ≡ target)

@@ -9,7 +9,7 @@ use Rattle.described.specs.declared.why.Why.TheVariants.{NoRam}
 use Rattle.frame_alloc.specs.Frames.{frames_in, is_within}
 use Rattle.item_checks.specs.declared.guests.Guest.{Guest}
 use Rattle.item_checks.specs.declared.state.Taken.{Taken}
-use Rattle.frame_ranges.specs.Ranges.{holds}
+use Rattle.frame_alloc.specs.Ranges.{holds}
 use Rattle.item_checks.specs.Taken.{Passed}
 use Rattle.item_checks.specs.Refusals.{Refusal}
 use Rattle.domain_plan.specs.Draws.{Drawn, Heaps, drawn, heaps, and_drawn, heap_item, is_claimed, free_frames}

@@ -12,14 +12,14 @@ use Rattle.described.specs.declared.item.What.TheVariants as whats
 use Rattle.item_checks.specs.declared.guests.Guest.{Guest}
 use Rattle.domain_bindings.specs.declared.host.Host.{Host}
 use Rattle.described.specs.declared.loaded.Loaded.{Loaded}
-use Rattle.frame_ranges.specs.Ranges.{holds, touched}
+use Rattle.frame_alloc.specs.Ranges.{holds, touched}
 use Rattle.item_checks.specs.Entries.{Entry, joined}
 use Rattle.item_checks.specs.Taken.{Passed, what_of, belongs_to, is_direct, is_repeated, pages_before, bank_pages, pages_of, all_passed, passed_of}
 use Rattle.item_checks.specs.Refusals.{first_refused}
 use Rattle.domain_plan.specs.Draws.{Heaps, heaps}
 use Rattle.domain_plan.specs.GuestMaps.{laid, maps_of, guest_ranges}
 use Rattle.domain_plan.specs.Arguments.{AreRead, IsSoundGuest, head_of}
-use Rattle.frame_ranges.proofs.CommonFrames.{not_both}
+use Rattle.frame_alloc.proofs.CommonFrames.{not_both}
 use Rattle.domain_plan.proofs.ClearLemmas.{IsClear, all_clear, is_mapping, pages_apart}
 use Rattle.domain_plan.proofs.MapLemmas.{item_tells, total, item_ranges, items_tell}
 use Rattle.domain_plan.proofs.FunctionLemmas.{AreApart, ArePagesApart, apart_append, apart_onto, one_page_range, apart_banks, laid_pages, apart_laid, AreItemsApart, apart_items}

@@ -8,7 +8,7 @@ use Rattle.described.specs.Maps.{target_of, Target}
 use Rattle.texts.specs.Consecutive.{numbers, is_in}
 use Rattle.std.specs.Fmt.{digits}
 use Rattle.frame_alloc.specs.Frames.{without, lowest_group}
-use Rattle.frame_ranges.specs.Ranges.{have_common, lie_in}
+use Rattle.frame_alloc.specs.Ranges.{have_common, lie_in}
 use Rattle.item_checks.specs.Entries.{Entry}
 use Rattle.item_checks.specs.Taken.{all_passed}
 use Rattle.item_checks.specs.Refusals.{Refusal, first_refused}

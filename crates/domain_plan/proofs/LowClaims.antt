@@ -6,7 +6,7 @@ use Rattle.texts.specs.declared.ranges.FrameRange.{FrameRange}
 use Rattle.described.specs.declared.item.What.{What}
 use Rattle.described.specs.declared.item.What.TheVariants as whats
 use Rattle.item_checks.specs.declared.state.Taken.{Taken}
-use Rattle.frame_ranges.specs.Ranges.{touched, cut, between}
+use Rattle.frame_alloc.specs.Ranges.{touched, cut, between}
 use Rattle.item_checks.specs.Entries.{Entry}
 use Rattle.item_checks.specs.Taken.{Passed, is_loaded, is_repeated, region_claims, claims_of, passing, all_passed}
 use Rattle.item_checks.specs.Standing.{taken_at, taken_from, claims_taken}

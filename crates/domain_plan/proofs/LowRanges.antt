@@ -20,7 +20,7 @@ use Rattle.frame_alloc.proofs.Without.{is_within-in}
 use Rattle.item_checks.specs.declared.guests.Guest.{Guest}
 use Rattle.domain_bindings.specs.declared.host.Host.{Host}
 use Rattle.described.specs.declared.loaded.Loaded.{Loaded}
-use Rattle.frame_ranges.specs.Ranges.{holds, touched, cut, between}
+use Rattle.frame_alloc.specs.Ranges.{holds, touched, cut, between}
 use Rattle.item_checks.specs.Entries.{Entry, of_host, of_guest, guest_entries, joined, load_item, is_read, items_of}
 use Rattle.item_checks.specs.Taken.{Passed, what_of, belongs_to, static_pages, is_direct, pages_before, is_repeated, bank_pages, bank_size, pages_of, passing, all_passed, total}
 use Rattle.domain_plan.specs.Draws.{Heaps, heaps}
@@ -28,7 +28,7 @@ use Rattle.domain_plan.specs.GuestMaps.{onto, laid, maps_of, guest_ranges}
 use Rattle.domain_plan.specs.PrivateLaying.{AreLowFrames, maps_by}
 use Rattle.described.specs.Sound.{AreWholePages, IsSound, SoundUnless}
 use Rattle.domain_plan.specs.Arguments.{AreSound, IsSoundGuest, has_no_fault, whats_of, head_of}
-use Rattle.frame_ranges.proofs.CommonFrames.{or_left, or_right}
+use Rattle.frame_alloc.proofs.CommonFrames.{or_left, or_right}
 use Rattle.domain_plan.proofs.DrawLemmas.{heaps_tell}
 use Rattle.domain_plan.proofs.MapLemmas.{total-banks, item_ranges, touched_whole}
 use Rattle.domain_plan.proofs.MapResult.{AreLowRanges}

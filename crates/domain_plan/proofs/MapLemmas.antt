@@ -15,12 +15,12 @@ use Rattle.described.specs.declared.item.What.TheVariants as whats
 use Rattle.frame_alloc.specs.Frames.{is_within}
 use Rattle.frame_alloc.proofs.Without.{is_within-in}
 use Rattle.domain_bindings.specs.declared.host.Host.{Host}
-use Rattle.frame_ranges.specs.Ranges.{holds, touched, cut}
+use Rattle.frame_alloc.specs.Ranges.{holds, touched, cut}
 use Rattle.item_checks.specs.Taken.{Passed, what_of, belongs_to, bank_pages, is_direct, pages_before, is_repeated, claims_of, pages_of}
 use Rattle.domain_plan.specs.GuestMaps.{onto, laid, maps_of, guest_ranges}
 pub use Rattle.item_checks.specs.Taken.{total}
 use Rattle.described.specs.Sound.{AreWholePages, IsSound}
-use Rattle.frame_ranges.proofs.CommonFrames.{or_left, or_right, within_tells, holds_one}
+use Rattle.frame_alloc.proofs.CommonFrames.{or_left, or_right, within_tells, holds_one}
 use Rattle.domain_plan.proofs.ClearLemmas.{IsClear, is_mapping}
 
 -- one list of ranges after the other

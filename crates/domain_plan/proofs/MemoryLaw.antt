@@ -11,8 +11,8 @@ use Rattle.described.specs.declared.item.What.{What}
 use Rattle.domain_bindings.specs.declared.host.Host.{Host}
 use Rattle.item_checks.specs.declared.guests.Guest.{Guest}
 use Rattle.described.specs.declared.loaded.Loaded.{Loaded}
-use Rattle.frame_ranges.specs.Ranges.{holds}
-use Rattle.frame_ranges.proofs.CommonFrames.{true_or_false, not_both}
+use Rattle.frame_alloc.specs.Ranges.{holds}
+use Rattle.frame_alloc.proofs.CommonFrames.{true_or_false, not_both}
 use Rattle.item_checks.specs.Entries.{joined, of_guest, is_read, items_of}
 use Rattle.item_checks.specs.Taken.{Passed, says_direct, is_direct, static_pages, pages_before, bank_pages, all_passed, passed_of, total}
 use Rattle.frame_alloc.specs.Frames.{AreFrames}

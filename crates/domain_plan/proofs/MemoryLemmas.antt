@@ -17,8 +17,8 @@ use Rattle.described.specs.declared.item.What.{What}
 use Rattle.described.specs.declared.item.What.TheVariants as whats
 use Rattle.frame_alloc.specs.Frames.{is_within}
 use Rattle.frame_alloc.proofs.FreeFrames.{is_in_nil, is_in-append, is_in-numbers}
-use Rattle.frame_ranges.specs.Ranges.{touched, holds}
-use Rattle.frame_ranges.proofs.CommonFrames.{true_or_false, same_test, or_tells, or_left, or_right, within_tells}
+use Rattle.frame_alloc.specs.Ranges.{touched, holds}
+use Rattle.frame_alloc.proofs.CommonFrames.{true_or_false, same_test, or_tells, or_left, or_right, within_tells}
 use Rattle.item_checks.specs.Entries.{of_guest}
 use Rattle.item_checks.specs.Taken.{Passed, what_of, belongs_to, says_direct, is_direct, static_pages, pages_before, bank_pages, bank_size, passing, all_passed, total}
 use Rattle.domain_plan.specs.GuestMaps.{onto, laid, maps_of}

@@ -16,7 +16,7 @@ use Rattle.item_checks.specs.declared.guests.Guest.{Guest}
 use Rattle.domain_bindings.specs.declared.host.Host.{Host}
 use Rattle.described.specs.declared.loaded.Loaded.{Loaded}
 use Rattle.domain_plan.specs.declared.planned.GuestPlan.{GuestPlan}
-use Rattle.frame_ranges.specs.Ranges.{touched, cut}
+use Rattle.frame_alloc.specs.Ranges.{touched, cut}
 use Rattle.item_checks.specs.Entries.{Entry, of_host, of_guest, guest_entries, load_item, is_read, items_of}
 use Rattle.item_checks.specs.Taken.{Passed, what_of, belongs_to, says_direct, is_direct, static_pages, pages_before, is_range, is_repeated, bank_pages, pages_of, passing, all_passed, passed_of}
 use Rattle.item_checks.specs.Reasons.{is_irq, has_console, is_with_console}

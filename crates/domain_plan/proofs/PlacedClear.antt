@@ -19,8 +19,8 @@ use Rattle.described.specs.Reasons.{where_so}
 use Rattle.frame_alloc.specs.Frames.{frames_in}
 use Rattle.frame_alloc.proofs.FreeFrames.{is_in_cons}
 use Rattle.domain_bindings.specs.declared.host.Host.{Host}
-use Rattle.frame_ranges.specs.Ranges.{holds, have_common, lie_in}
-use Rattle.frame_ranges.proofs.CommonFrames.{true_or_false, not_both, or_tells, and_tells, common_tells, common_misses, is_in-frames_in}
+use Rattle.frame_alloc.specs.Ranges.{holds, have_common, lie_in}
+use Rattle.frame_alloc.proofs.CommonFrames.{true_or_false, not_both, or_tells, and_tells, common_tells, common_misses, is_in-frames_in}
 use Rattle.item_checks.specs.Entries.{Entry}
 use Rattle.item_checks.specs.Taken.{Passed, item_of, what_of, belongs_to, passing, all_passed}
 use Rattle.domain_plan.specs.Draws.{free_frames, is_claimed}

@@ -10,8 +10,8 @@ use Rattle.texts.specs.declared.ranges.FrameRange.{FrameRange}
 use Rattle.described.specs.declared.item.What.{What}
 use Rattle.frame_alloc.specs.Frames.{frames_in, AreFrames}
 use Rattle.frame_alloc.proofs.FreeFrames.{is_in_cons}
-use Rattle.frame_ranges.specs.Ranges.{holds}
-use Rattle.frame_ranges.proofs.CommonFrames.{true_or_false, not_both}
+use Rattle.frame_alloc.specs.Ranges.{holds}
+use Rattle.frame_alloc.proofs.CommonFrames.{true_or_false, not_both}
 use Rattle.domain_bindings.specs.declared.host.Host.{Host}
 use Rattle.described.specs.declared.loaded.Loaded.{Loaded}
 use Rattle.item_checks.specs.declared.guests.Guest.{Guest}

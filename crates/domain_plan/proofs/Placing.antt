@@ -11,7 +11,7 @@ use Rattle.described.specs.declared.item.What.{What}
 use Rattle.described.specs.declared.item.What.TheVariants as whats
 use Rattle.described.specs.declared.why.Why.{Why}
 use Rattle.domain_bindings.specs.declared.host.Host.{Host}
-use Rattle.frame_ranges.specs.Ranges.{cut, touched}
+use Rattle.frame_alloc.specs.Ranges.{cut, touched}
 use Rattle.item_checks.specs.Entries.{Entry}
 use Rattle.item_checks.specs.Taken.{Passed, item_of, what_of, belongs_to, says_direct, is_direct, static_pages, pages_before, is_load_over, is_loaded, is_range, is_repeated, bank_pages, region_claims, claims_of, pages_of, passing, all_passed}
 use Rattle.item_checks.specs.Layouts.{layout_of}

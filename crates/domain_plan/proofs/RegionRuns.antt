@@ -17,8 +17,8 @@ use Rattle.described.specs.declared.why.Why.TheVariants as whys
 use Rattle.described.specs.Reasons.{where_so}
 use Rattle.frame_alloc.specs.Frames.{is_within}
 use Rattle.domain_bindings.specs.declared.host.Host.{Host}
-use Rattle.frame_ranges.specs.Ranges.{holds, touched}
-use Rattle.frame_ranges.proofs.CommonFrames.{true_or_false, not_both, and_tells, within_bounds, holds_one}
+use Rattle.frame_alloc.specs.Ranges.{holds, touched}
+use Rattle.frame_alloc.proofs.CommonFrames.{true_or_false, not_both, and_tells, within_bounds, holds_one}
 use Rattle.item_checks.specs.Entries.{Entry}
 use Rattle.item_checks.specs.Taken.{Passed, item_of, what_of, region_claims, passing, all_passed}
 use Rattle.domain_plan.specs.Draws.{free_frames}

@@ -7,7 +7,7 @@ use Rattle.described.specs.declared.why.Why.TheVariants.{NoRam}
 use Rattle.frame_alloc.specs.Frames.{AreFrames, without, lowest_run}
 use Rattle.frame_alloc.proofs.FreeFrames.{is_in-from_without, is_in-without_taken, AreFrames-without, lowest_run-tells}
 use Rattle.frame_alloc.proofs.AscendingFrames.{lowest_run-bound}
-use Rattle.frame_ranges.proofs.CommonFrames.{true_or_false, not_both}
+use Rattle.frame_alloc.proofs.CommonFrames.{true_or_false, not_both}
 use Rattle.item_checks.specs.Refusals.{Refusal}
 use Rattle.domain_plan.specs.Regions.{Request, Runs, region_item, and_run, runs_drawn}
 use Rattle.domain_plan.specs.declared.runs.Run.{Run}

@@ -37,7 +37,7 @@ use Rattle.item_checks.specs.declared.guests.Guest.{Guest}
 use Rattle.domain_plan.specs.Arguments.{IsSoundGuest, head_of, has_no_fault}
 use Rattle.item_checks.specs.Entries.{Entry, joined, of_host, of_guest, items_of, is_read, load_item, guest_entries, partial_items}
 use Rattle.item_checks.specs.Taken.{static_pages}
-use Rattle.frame_ranges.specs.Ranges.{touched}
+use Rattle.frame_alloc.specs.Ranges.{touched}
 use Rattle.domain_plan.proofs.MapLemmas.{touched_whole}
 use Rattle.domain_plan.specs.Descriptions.{Description, host_of, domain_of, guest_of, guests_of, guests_from, partial_state, partial_at}
 use Rattle.domain_plan.proofs.Sound.{static_pages_whole, full, bare}

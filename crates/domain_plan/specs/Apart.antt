@@ -10,7 +10,7 @@ use Rattle.frame_alloc.specs.Frames.{AreFrames}
 use Rattle.item_checks.specs.declared.guests.Guest.{Guest}
 use Rattle.domain_bindings.specs.declared.host.Host.{Host}
 use Rattle.described.specs.declared.loaded.Loaded.{Loaded}
-use Rattle.frame_ranges.specs.Ranges.{holds}
+use Rattle.frame_alloc.specs.Ranges.{holds}
 use Rattle.item_checks.specs.Taken.{Passed, what_of, belongs_to}
 use Rattle.item_checks.specs.Reasons.{are_one_region}
 use Rattle.domain_plan.specs.Draws.{Heaps}

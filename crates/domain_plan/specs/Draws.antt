@@ -7,7 +7,7 @@ use Rattle.described.specs.declared.item.Part.TheVariants as parts
 use Rattle.described.specs.declared.why.Why.TheVariants.{NoRam}
 use Rattle.frame_alloc.specs.Frames.{frames_in, without, lowest_frame, lowest_chunk}
 use Rattle.item_checks.specs.declared.guests.Guest.{Guest}
-use Rattle.frame_ranges.specs.Ranges.{holds}
+use Rattle.frame_alloc.specs.Ranges.{holds}
 use Rattle.item_checks.specs.Taken.{Passed}
 use Rattle.item_checks.specs.Refusals.{Refusal}
 

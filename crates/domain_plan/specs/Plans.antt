@@ -12,7 +12,7 @@ use Rattle.described.specs.declared.loaded.Loaded.{Loaded}
 use Rattle.item_checks.specs.declared.guests.PartialState.{PartialState}
 use Rattle.item_checks.specs.declared.guests.PartialState.TheVariants as states
 use Rattle.domain_plan.specs.declared.planned.GuestPlan.{GuestPlan}
-use Rattle.frame_ranges.specs.Ranges.{touched}
+use Rattle.frame_alloc.specs.Ranges.{touched}
 use Rattle.item_checks.specs.Entries.{joined}
 use Rattle.item_checks.specs.Taken.{Passed, what_of, belongs_to, is_direct, pages_before, bank_pages, all_passed, passed_of}
 use Rattle.item_checks.specs.Reasons.{is_irq, layout_at}

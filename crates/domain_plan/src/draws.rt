@@ -7,8 +7,7 @@ ghost use Rattle.item_checks.specs.Standing.{taken_from, claims_taken};
 ghost use Rattle.domain_plan.specs.Draws.{Drawn, Heaps, groups_drawn, drawn, heaps, free_frames};
 
 use described::{Item, Part, Why};
-use frame_alloc::{FramePool, PoolFault};
-use frame_ranges::frames_left;
+use frame_alloc::{FramePool, PoolFault, frames_left};
 use item_checks::{Guest, PlanFault, Taken};
 use std::alloc::{AllocError, Global};
 use texts::{Bytes, FrameRange, List};

@@ -11,7 +11,7 @@ ghost use Rattle.domain_plan.specs.PrivateLaying.{AreLowFrames, maps_by};
 
 use crate::runs::{Run, placed_item};
 use described::{Described, Kind, MapRange, What};
-use frame_ranges::{touched, touched_from};
+use frame_alloc::{touched, touched_from};
 use item_checks::{BANK_SIZE, Guest, Owner, State, is_read, partial_items, takes_of};
 use std::alloc::{AllocError, Global};
 use std::cmp::min;

@@ -16,3 +16,8 @@ pub mod Removals
 pub mod Searches
 pub mod Walks
 pub mod Without
+pub mod CommonFrames
+pub mod CoverLemmas
+pub mod GapLemmas
+pub mod LaterLemmas
+pub mod LeftLemmas

@@ -7,7 +7,7 @@ use Rattle.described.specs.declared.item.Described.{Described}
 use Rattle.described.specs.declared.item.What.{What}
 use Rattle.described.specs.declared.item.What.TheVariants as whats
 use Rattle.texts.specs.declared.ranges.FrameRange.{FrameRange}
-use Rattle.frame_ranges.specs.Ranges.{touched}
+use Rattle.frame_alloc.specs.Ranges.{touched}
 use Rattle.item_checks.specs.declared.guests.Guest.{Guest}
 use Rattle.domain_plan.specs.Arguments.{IsSoundGuest, whats_of}
 use Rattle.item_checks.specs.Entries.{items_of, is_read}

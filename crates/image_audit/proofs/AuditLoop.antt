@@ -11,7 +11,7 @@ use Rattle.outside.specs.declared.files.FileError.{FileError}
 use Rattle.texts.specs.declared.ranges.FrameRange.{FrameRange}
 use Rattle.described.specs.declared.map_range.MapRange.{MapRange}
 use Rattle.frame_alloc.proofs.FreeFrames.{is_in_cons}
-use Rattle.frame_ranges.proofs.CommonFrames.{or_right}
+use Rattle.frame_alloc.proofs.CommonFrames.{or_right}
 use Rattle.stage2_walk.specs.Pages.{Page, frames_of}
 use Rattle.stage2_walk.specs.Files.{image_of}
 use Rattle.stage2_walk.specs.declared.image_fault.ImageFault.{ImageFault}
@@ -70,7 +70,8 @@ module _ (told : Option (List File)) (folder : Option (List ℕ)) (plan : GuestP
   same_read outcome (Err error) p = p
 
   same_refusal : (outcome : Outcome) → AfterAudit told folder mapped earlier plan nothing outcome → AfterAudit told folder other_mapped other_earlier plan nothing outcome
-  same_refusal outcome p = (p.0, p.1, same_read outcome p.0 p.2)
+  same_refusal outcome (inl fails) = inl fails
+  same_refusal outcome (inr p) = inr (p.0, p.1, same_read outcome p.0 p.2)
 
   same_audited : (bytes : List ℕ) → IsAudited told folder mapped earlier plan bytes → IsAudited told folder other_mapped other_earlier plan bytes
   same_audited bytes is = record { read = is.read; sound = same_sound mapped other_mapped earlier other_earlier same_mapped same_earlier plan.ranges bytes is.sound }

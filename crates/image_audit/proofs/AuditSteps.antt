@@ -3,12 +3,13 @@ use Rattle.std.proofs.Common.{◌≡◌, refl, sym, subst, ℕ, Bool, List, [], 
 use Rattle.std.specs.Prelude.{◌⊎◌, Option, Result, Ok, Err}
 use Rattle.outside.specs.Outside.{File}
 use Rattle.described.specs.declared.map_range.MapRange.{MapRange}
+use Rattle.outside.specs.declared.status.Status.{Status}
 use Rattle.outside.specs.declared.status.Status.TheVariants as statuses
 use Rattle.stage2_walk.specs.Pages.{Page}
 use Rattle.stage2_walk.specs.Files.{image_of}
 use Rattle.stage2_walk.specs.declared.image_fault.ImageFault.{ImageFault}
 use Rattle.domain_plan.specs.declared.planned.GuestPlan.{GuestPlan}
-use Rattle.run_steps.specs.Endings.{Outcome, Refuses, Builds}
+use Rattle.run_steps.specs.Endings.{Outcome, Refuses, Builds, Finds}
 use Rattle.run_steps.specs.Steps.{OnResult, IsReading, AfterReading, nothing}
 use Rattle.run_steps.proofs.Step.{Next, IsStep, Avoids, said_as, and_then, hand_on_step, on_result_step, both_avoid, hand_on_avoids}
 use Rattle.run_steps.proofs.ReadingSteps.{reading_step, reading_avoids}
@@ -37,12 +38,17 @@ module _ (name bytes : List ℕ) where
   unless_refuses None outputs report p = p
   unless_refuses (Some found) outputs report p = p
 
+  unless_finds : (text : Option (List ℕ)) (status : Status) (list : List ℕ) → unless text nothing (Finds status list) → ⊥
+  unless_finds None status list p = p
+  unless_finds (Some found) status list p = p
+
   unless_step : (text : Option (List ℕ)) → IsStep (NothingFound text) (unless text)
   unless_step text = record {
     splits = unless_splits text;
     gives = λ image found next outcome p. subst (λ (t : Option (List ℕ)). unless t next outcome) (sym found.1) (subst (λ (i : List ℕ). next i outcome) found.0 p);
     stays = unless_stays text;
     refuses = unless_refuses text;
+    finds = unless_finds text;
   }
 
   no_item_differs : statuses.Refused ≡ statuses.Differs → ⊥
@@ -75,7 +81,7 @@ module _ (name : List ℕ) (mapped earlier : ℕ → Bool) (ranges : List MapRan
   SoundBytes image = (image ≡ bytes) × IsSound mapped earlier ranges bytes
 
   tested_step : IsStep Tested tested
-  tested_step = on_result_step (IsImageRefusal name) (λ fault outputs report p. p) (image_of bytes)
+  tested_step = on_result_step (IsImageRefusal name) (λ fault outputs report p. p) (λ fault status list p. p) (image_of bytes)
 
   pub image_step : IsStep SoundBytes (AfterImage name mapped earlier ranges bytes)
   image_step =

@@ -15,7 +15,7 @@ use Rattle.described.specs.declared.map_range.MapRange.{MapRange}
 use Rattle.described.proofs.RunLemmas.{holds_tells}
 use Rattle.frame_alloc.specs.Frames.{is_within}
 use Rattle.frame_alloc.proofs.FreeFrames.{is_in_nil, is_in_cons}
-use Rattle.frame_ranges.proofs.CommonFrames.{within_tells, or_left, or_right, or_none}
+use Rattle.frame_alloc.proofs.CommonFrames.{within_tells, or_left, or_right, or_none}
 use Rattle.stage2_walk.specs.Pages.{Page, frames_of}
 use Rattle.stage2_walk.specs.Files.{image_of}
 use Rattle.stage2_walk.specs.Runs.{map_of}

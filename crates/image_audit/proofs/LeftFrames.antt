@@ -12,8 +12,8 @@ use Rattle.texts.specs.declared.ranges.FrameRange.{FrameRange}
 use Rattle.described.specs.declared.map_range.MapRange.{MapRange}
 use Rattle.frame_alloc.specs.Frames.{AreFrameRanges, frames_in, is_within}
 use Rattle.frame_alloc.proofs.FreeFrames.{is_in_nil, is_in_cons}
-use Rattle.frame_ranges.specs.Ranges.{holds, lie_in}
-use Rattle.frame_ranges.proofs.CommonFrames.{is_in-frames_in, holds_one, within_tells}
+use Rattle.frame_alloc.specs.Ranges.{holds, lie_in}
+use Rattle.frame_alloc.proofs.CommonFrames.{is_in-frames_in, holds_one, within_tells}
 use Rattle.domain_plan.specs.declared.planned.GuestPlan.{GuestPlan}
 use Rattle.image_audit.specs.Findings.{is_mapped}
 use Rattle.image_audit.specs.PrivateRests.{host_frames, one_frame, IsRest, IsLeft}

@@ -4,7 +4,7 @@ use Rattle.texts.specs.Consecutive.{is_in}
 use Rattle.texts.specs.declared.ranges.FrameRange.{FrameRange}
 use Rattle.described.specs.declared.map_range.MapRange.{MapRange}
 use Rattle.frame_alloc.specs.Frames.{AreFrameRanges}
-use Rattle.frame_ranges.specs.Ranges.{holds}
+use Rattle.frame_alloc.specs.Ranges.{holds}
 
 -- no range holds the frame
 abbrev pub is_outside : List FrameRange → ℕ → Bool

@@ -1,6 +1,7 @@
 //! The audit of the images of guests, one after the other.
 ghost use Rattle.std.specs.Prelude.{◌≡◌, ◌+◌, ℕ, All, IfErr, IfOk, IsSome, List as Items, None, OnOk};
 ghost use Rattle.std.specs.Option.{option_copied};
+ghost use Rattle.outside.specs.Reads.{Reads};
 ghost use Rattle.described.specs.Maps.{AreMapRanges, AreMerged};
 ghost use Rattle.frame_alloc.specs.Frames.{AreFrameRanges};
 ghost use Rattle.stage2_walk.specs.Files.{image_of};
@@ -9,7 +10,7 @@ ghost use Rattle.guest_images.specs.Names.{image_name};
 ghost use Rattle.guest_images.specs.Walks.{tables_in};
 ghost use Rattle.run_steps.specs.Names.{joined};
 ghost use Rattle.run_steps.specs.Steps.{nothing};
-ghost use Rattle.run_steps.specs.Stops.{Grew, IsDue, IsOwnDue};
+ghost use Rattle.run_steps.specs.Stops.{StopsFor, IsOwnDue};
 ghost use Rattle.image_audit.specs.Audits.{AfterAudit, AfterAudits, AfterImage, IsAudited, FindsNothing, IsSound, UnlessFound};
 ghost use Rattle.image_audit.specs.Findings.{audit_finding};
 ghost use Rattle.image_audit.specs.PrivateRests.{is_outside, IsLeft};
@@ -42,9 +43,8 @@ pub fn audit_images<F: Files>(
     requires merged { All (λ guest. AreMerged guest.ranges) guests.now }
     // Nothing is found in any image, and so they isolate the guests as the plan does.
     ensures audited { OnOk result (FindsNothing (F.held files.old) (option_copied folder.entry) guests.now) }
-    ensures stopped { IfErr result (λ stop. IsDue (AfterAudits (F.held files.old) (option_copied folder.entry) guests.now nothing) (F.faults files.old, F.absents files.old, F.overlong files.old) (F.faults files.new, F.absents files.new, F.overlong files.new) stop) }
-    ensures grew { Grew (F.faults files.old, F.absents files.old, F.overlong files.old) (F.faults files.new, F.absents files.new, F.overlong files.new) }
-    ensures kept { F.held files.new ≡ F.held files.old }
+    ensures stopped { IfErr result (StopsFor F.counts files.old files.new (AfterAudits (F.held files.old) (option_copied folder.entry) guests.now nothing)) }
+    ensures only_read { Reads F.held F.counts files.old files.new }
 {
     let unmapped = find_unmapped(alloc, guests)?;
     let mut free = all_frames(alloc)?;
@@ -87,9 +87,8 @@ fn audit_image<F: Files>(
     requires unmapped { AreFrameRanges unmapped.now }
     requires free { AreFrameRanges free.now }
     ensures audited { IfOk result (λ left. (bytes : Items ℕ) × IsAudited (F.held files.old) (option_copied folder.entry) (is_outside unmapped.now) (is_outside free.now) guest.now bytes × IsLeft free.now (tables_in (image_of bytes)) left) }
-    ensures stopped { IfErr result (λ stop. IsDue (AfterAudit (F.held files.old) (option_copied folder.entry) (is_outside unmapped.now) (is_outside free.now) guest.now nothing) (F.faults files.old, F.absents files.old, F.overlong files.old) (F.faults files.new, F.absents files.new, F.overlong files.new) stop) }
-    ensures grew { Grew (F.faults files.old, F.absents files.old, F.overlong files.old) (F.faults files.new, F.absents files.new, F.overlong files.new) }
-    ensures kept { F.held files.new ≡ F.held files.old }
+    ensures stopped { IfErr result (StopsFor F.counts files.old files.new (AfterAudit (F.held files.old) (option_copied folder.entry) (is_outside unmapped.now) (is_outside free.now) guest.now nothing)) }
+    ensures only_read { Reads F.held F.counts files.old files.new }
 {
     let name = make_image_path(alloc, folder, guest.number)?;
     let bytes = read_file(alloc, name.as_str(), IMAGE_LIMIT, files)?;

@@ -9,7 +9,7 @@ ghost use Rattle.image_audit.specs.PrivateRests.{IsLeft, IsRest, host_frames, is
 
 use described::MapRange;
 use domain_plan::GuestPlan;
-use frame_ranges::{frames_left, lies_in};
+use frame_alloc::{frames_left, lies_in};
 use stage2_walk::Image;
 use std::alloc::{AllocError, Global};
 use texts::{FrameRange, List};

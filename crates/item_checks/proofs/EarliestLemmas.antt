@@ -6,10 +6,10 @@ use Rattle.std.specs.Option.{option_or}
 use Rattle.std.proofs.lemmas.List.Folds.{find-append}
 use Rattle.texts.specs.declared.ranges.FrameRange.{FrameRange}
 use Rattle.item_checks.specs.declared.state.Taken.{Taken}
-use Rattle.frame_ranges.specs.Ranges.{have_common}
+use Rattle.frame_alloc.specs.Ranges.{have_common}
 use Rattle.item_checks.specs.Taken.{Passed, item_of}
 use Rattle.item_checks.specs.Standing.{taken_at, taken_from}
-use Rattle.frame_ranges.proofs.CommonFrames.{none_common, common-cons_left}
+use Rattle.frame_alloc.proofs.CommonFrames.{none_common, common-cons_left}
 
 -- the range has something of these ranges
 abbrev pub takes_of : List FrameRange → Taken → Bool

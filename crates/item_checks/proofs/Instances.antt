@@ -15,7 +15,7 @@ use Rattle.described.specs.Layouts.{usual_layout}
 use Rattle.texts.specs.Consecutive.{numbers}
 use Rattle.std.specs.Fmt.{digits}
 use Rattle.frame_alloc.specs.Frames.{without}
-use Rattle.frame_ranges.specs.Ranges.{have_common, lie_in}
+use Rattle.frame_alloc.specs.Ranges.{have_common, lie_in}
 use Rattle.domain_bindings.specs.declared.host.Host.{Host}
 use Rattle.item_checks.specs.Entries.{Entry}
 use Rattle.item_checks.specs.Taken.{all_passed}

@@ -15,7 +15,7 @@ use Rattle.described.specs.Reasons.{where_so}
 use Rattle.item_checks.specs.Reasons.{is_irq, is_past_spis, has_console}
 use Rattle.item_checks.specs.Standing.{is_guest, is_other, first_other, is_of_other, item_where}
 use Rattle.item_checks.specs.PrivateStanding.{is_irq_of_other}
-use Rattle.frame_ranges.proofs.CommonFrames.{or_none}
+use Rattle.frame_alloc.proofs.CommonFrames.{or_none}
 
 belongs_is : (guest : Option ℕ) (p : Passed) → belongs_to guest p ≡ is_guest guest p.entry.guest
 belongs_is None p = refl

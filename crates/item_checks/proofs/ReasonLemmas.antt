@@ -12,14 +12,14 @@ use Rattle.described.specs.declared.item.ModuleKind.{ModuleKind}
 use Rattle.described.specs.declared.item.What.{What}
 use Rattle.described.specs.declared.item.What.TheVariants as whats
 use Rattle.domain_bindings.specs.declared.host.Host.{Host}
-use Rattle.frame_ranges.specs.Ranges.{have_common, lie_in}
+use Rattle.frame_alloc.specs.Ranges.{have_common, lie_in}
 use Rattle.item_checks.specs.Taken.{Passed, item_of, what_of, belongs_to}
 use Rattle.described.specs.Reasons.{where_so}
 use Rattle.item_checks.specs.Reasons.{naming_first, area_pages, layout_at, guest_overlap, fills, partial_unread, are_one_region, have_one_base, unlike, is_owner, is_irq, of_another_guest, irq_too_high, irq_of_console, irq_of_another}
 use Rattle.item_checks.specs.Refusals.{cross_reasons, first_there}
 use Rattle.item_checks.specs.Standing.{claims_taken, pages_taken, is_of_other}
 use Rattle.item_checks.specs.PrivateStanding.{overlap_in, is_region, naming_reasons, landing_reasons, irq_reasons}
-use Rattle.frame_ranges.proofs.CommonFrames.{none_common}
+use Rattle.frame_alloc.proofs.CommonFrames.{none_common}
 
 pub find_same : (p q : Passed → Bool) (xs : List Passed) → ((x : Passed) → p x ≡ q x) → find p xs ≡ find q xs
 find_same p q [] same = refl

@@ -13,13 +13,13 @@ use Rattle.described.specs.declared.why.Why.{Why}
 use Rattle.described.specs.declared.why.Why.TheVariants as whys
 use Rattle.item_checks.specs.declared.state.Region.{Region}
 use Rattle.item_checks.specs.declared.state.Taken.{Taken}
-use Rattle.frame_ranges.specs.Ranges.{have_common}
+use Rattle.frame_alloc.specs.Ranges.{have_common}
 use Rattle.item_checks.specs.Taken.{Passed, item_of, what_of, belongs_to}
 use Rattle.described.specs.Reasons.{where_so}
 use Rattle.item_checks.specs.Reasons.{is_same_host, have_one_base, unlike, is_owner}
 use Rattle.item_checks.specs.Standing.{taken_at, taken_from, claims_taken, is_guest, region_in, regions_from}
 use Rattle.item_checks.specs.PrivateStanding.{is_region, is_sought, is_region_at}
-use Rattle.frame_ranges.proofs.CommonFrames.{none_common, common-cons_left}
+use Rattle.frame_alloc.proofs.CommonFrames.{none_common, common-cons_left}
 
 pub found : {A : Type 0} (test : A → Bool) (one : A) (rest : List A) → test one ≡ true → find test (one ∷ rest) ≡ Some one
 found test one rest here = rw here refl

@@ -10,7 +10,7 @@ use Rattle.described.specs.declared.item.What.TheVariants as whats
 use Rattle.std.proofs.lemmas.Bool.Decides.{nat_tests}
 use Rattle.std.proofs.lemmas.List.{map-append, length-map}
 use Rattle.std.proofs.lemmas.List.Sums.{sum_by-append, sum_by-cons}
-use Rattle.frame_ranges.proofs.CommonFrames.{or_none}
+use Rattle.frame_alloc.proofs.CommonFrames.{or_none}
 use Rattle.item_checks.proofs.RegionLemmas.{regions_from-more}
 use Rattle.item_checks.proofs.IrqLemmas.{item_where-more, other_is}
 use Rattle.std.specs.Option.{option_or}
@@ -21,7 +21,7 @@ use Rattle.item_checks.specs.declared.state.Owner.{Owner}
 use Rattle.item_checks.specs.declared.state.State.{State}
 use Rattle.item_checks.specs.declared.state.Taken.{Taken}
 use Rattle.item_checks.specs.declared.reasons.Takes.{Takes}
-use Rattle.frame_ranges.specs.Ranges.{cut}
+use Rattle.frame_alloc.specs.Ranges.{cut}
 use Rattle.item_checks.specs.Taken.{Passed, item_of, what_of, belongs_to, says_direct, is_direct, static_pages, pages_before, claims_of, pages_of, passing, is_load_over, is_loaded, is_range, is_repeated}
 use Rattle.item_checks.specs.Standing.{Stands, taken_at, taken_from, claims_taken, pages_taken, load_in, entry_of, is_of_other, item_where}
 use Rattle.item_checks.specs.PrivateStanding.{IsAdded, in_guest}

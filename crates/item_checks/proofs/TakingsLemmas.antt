@@ -9,8 +9,8 @@ use Rattle.std.specs.BTreeMap.{get}
 use Rattle.std.proofs.lemmas.Map.Keys.{ge_from_not_lt}
 use Rattle.texts.specs.declared.ranges.FrameRange.{FrameRange}
 use Rattle.frame_alloc.specs.Frames.{is_within}
-use Rattle.frame_ranges.specs.Ranges.{holds}
-use Rattle.frame_ranges.proofs.CommonFrames.{or_tells, or_left, or_right, within_bounds, holds_one, common_tells}
+use Rattle.frame_alloc.specs.Ranges.{holds}
+use Rattle.frame_alloc.proofs.CommonFrames.{or_tells, or_left, or_right, within_bounds, holds_one, common_tells}
 use Rattle.item_checks.specs.declared.state.Taken.{Taken}
 use Rattle.item_checks.specs.PrivateTakings.{Ends, Has, IsCovered, AreRising, IsIndex, AreClear}
 use Rattle.item_checks.proofs.EarliestLemmas.{takes_of}

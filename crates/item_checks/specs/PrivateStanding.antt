@@ -21,7 +21,7 @@ use Rattle.item_checks.specs.Refusals.{first_refused}
 use Rattle.described.specs.Reasons.{where_so}
 use Rattle.item_checks.specs.Reasons.{naming_first, layout, area_pages, layout_at, unlike, is_owner, is_past_spis, has_console, is_irq}
 use Rattle.item_checks.specs.Entries.{Entry}
-use Rattle.frame_ranges.specs.Ranges.{cut, lie_in, have_common}
+use Rattle.frame_alloc.specs.Ranges.{cut, lie_in, have_common}
 use Rattle.std.specs.Option.{option_or}
 use Rattle.item_checks.specs.Taken.{Passed, what_of, belongs_to, says_direct, static_pages, is_range, all_passed}
 use Rattle.item_checks.specs.Standing.{taken_at, claims_taken, pages_taken, load_in, has_triple, is_guest, region_in, is_past, first_other, is_of_other, entry_of, Stands}

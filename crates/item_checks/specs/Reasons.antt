@@ -13,7 +13,7 @@ use Rattle.described.specs.declared.why.Why.TheVariants as whys
 use Rattle.described.specs.declared.layout.Layout.{Layout}
 use Rattle.described.specs.Reasons.{where_so}
 use Rattle.domain_bindings.specs.declared.host.Host.{Host}
-use Rattle.frame_ranges.specs.Ranges.{touched, lie_in, have_common}
+use Rattle.frame_alloc.specs.Ranges.{touched, lie_in, have_common}
 use Rattle.item_checks.specs.Taken.{Passed, item_of, what_of, belongs_to, is_direct}
 use Rattle.item_checks.specs.Layouts.{layout_of}
 

@@ -6,7 +6,7 @@ use Rattle.texts.specs.declared.ranges.FrameRange.{FrameRange}
 use Rattle.described.specs.declared.item.Item.{Item}
 use Rattle.described.specs.declared.item.What.{What}
 use Rattle.described.specs.declared.item.What.TheVariants as whats
-use Rattle.frame_ranges.specs.Ranges.{cut, touched}
+use Rattle.frame_alloc.specs.Ranges.{cut, touched}
 use Rattle.domain_bindings.specs.declared.host.Host.{Host}
 use Rattle.described.specs.declared.loaded.Loaded.{Loaded}
 use Rattle.item_checks.specs.declared.guests.Guest.{Guest}

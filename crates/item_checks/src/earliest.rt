@@ -1,6 +1,6 @@
 // The earliest item that takes a frame or a page.
 ghost use Rattle.std.specs.Prelude.{◌≡◌, ℕ, List, [], ◌∷◌, Option, find, option_map, option_and_then, slice_get};
-ghost use Rattle.frame_ranges.specs.Ranges.{have_common};
+ghost use Rattle.frame_alloc.specs.Ranges.{have_common};
 ghost use Rattle.item_checks.specs.Taken.{Passed, item_of};
 ghost use Rattle.item_checks.specs.Standing.{Stands, claims_taken, pages_taken};
 

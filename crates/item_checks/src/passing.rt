@@ -17,7 +17,7 @@ use crate::takes::has_triple;
 use crate::takings::Takings;
 use described::{Described, Item, What, Why};
 use domain_bindings::Host;
-use frame_ranges::touched;
+use frame_alloc::touched;
 use std::alloc::{AllocError, Global};
 use std::cmp::min;
 use texts::{BaseSize, Bytes, FrameRange};

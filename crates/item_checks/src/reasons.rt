@@ -3,7 +3,7 @@ ghost use Rattle.std.specs.Prelude.{◌≡◌, ℕ, ◌+◌, ◌^◌, ◌≤◌,
 ghost use Rattle.std.specs.Option.{option_or};
 ghost use Rattle.described.specs.declared.why.Why.TheVariants as whys;
 ghost use Rattle.frame_alloc.specs.Frames.{AreFrameRanges};
-ghost use Rattle.frame_ranges.specs.Ranges.{have_common, lie_in, touched};
+ghost use Rattle.frame_alloc.specs.Ranges.{have_common, lie_in, touched};
 ghost use Rattle.item_checks.specs.Taken.{Passed};
 ghost use Rattle.described.specs.Reasons.{where_so};
 ghost use Rattle.item_checks.specs.Reasons.{naming_first, layout, layout_at, area_pages, is_device_tree};
@@ -14,7 +14,7 @@ ghost use Rattle.item_checks.specs.PrivateStanding.{mine_of, overlap_in};
 use crate::state::{Owner, State};
 use described::{Described, Item, Layout, ModuleKind, Part, What, Why};
 use domain_bindings::Host;
-use frame_ranges::{lies_in, meets_any, touched};
+use frame_alloc::{lies_in, meets_any, touched};
 use std::alloc::{AllocError, Global};
 use texts::{BaseSize, Bytes, FrameRange};
 

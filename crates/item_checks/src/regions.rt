@@ -4,7 +4,7 @@ ghost use Rattle.std.specs.Option.{option_or};
 ghost use Rattle.described.specs.declared.why.Why.TheVariants as whys;
 ghost use Rattle.frame_alloc.specs.Frames.{AreFrameRanges};
 ghost use Rattle.described.specs.declared.item.What.TheVariants as whats;
-ghost use Rattle.frame_ranges.specs.Ranges.{have_common};
+ghost use Rattle.frame_alloc.specs.Ranges.{have_common};
 ghost use Rattle.item_checks.specs.Taken.{Passed, belongs_to, item_of, what_of};
 ghost use Rattle.described.specs.Reasons.{where_so};
 ghost use Rattle.item_checks.specs.Reasons.{naming_first, is_owner, is_same_host, unlike};
@@ -16,7 +16,7 @@ use crate::state::{Owner, Region, State, Taken};
 use crate::takings::Takings;
 use described::{Item, Why};
 use domain_bindings::Host;
-use frame_ranges::meets_any;
+use frame_alloc::meets_any;
 use std::alloc::{AllocError, Global};
 use texts::FrameRange;
 

@@ -1,6 +1,6 @@
 // What is known of the items that were passed.
 ghost use Rattle.std.specs.Prelude.{◌≡◌, ℕ, ◌^◌, ◌≤◌, List, [], Option, None};
-ghost use Rattle.frame_ranges.specs.Ranges.{cut};
+ghost use Rattle.frame_alloc.specs.Ranges.{cut};
 ghost use Rattle.item_checks.specs.Taken.{Passed, is_direct, pages_before};
 ghost use Rattle.item_checks.specs.PrivateStanding.{IsFresh};
 ghost use Rattle.item_checks.specs.Standing.{Stands, taken_from, claims_taken, regions_from};

@@ -1,13 +1,13 @@
 // What an item takes.
 ghost use Rattle.std.specs.Prelude.{◌≡◌, ℕ, ◌+◌, ◌^◌, ◌≤◌, ◌==◌, ◌&&◌, nat_le, true, List, [], ◌∷◌, map, All, Option, IfOk};
 ghost use Rattle.std.specs.List.{list_any};
-ghost use Rattle.frame_ranges.specs.Ranges.{touched};
+ghost use Rattle.frame_alloc.specs.Ranges.{touched};
 ghost use Rattle.item_checks.specs.Taken.{Passed, is_loaded, is_repeated, bank_pages, claims_of, pages_of, total, has_frames};
 ghost use Rattle.item_checks.specs.Standing.{Stands, entry_of, has_triple};
 
 use crate::state::{Owner, State, Triple};
 use described::{Described, What};
-use frame_ranges::{touched, touched_from};
+use frame_alloc::{touched, touched_from};
 use std::alloc::{AllocError, Global};
 use std::cmp::min;
 use texts::{BaseSize, FrameRange};

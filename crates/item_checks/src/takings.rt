@@ -1,10 +1,10 @@
 // What items take, with ranges by which it is told that others have nothing of it.
 ghost use Rattle.std.specs.Prelude.{◌≡◌, ℕ, ◌+◌, ◌^◌, ◌<◌, ◌≤◌, ◌⊎◌, ◌++◌, ◌∷◌, [], true, false, None, Some, find, option_map, OnOk, IfSome};
-ghost use Rattle.frame_ranges.specs.Ranges.{have_common, holds};
+ghost use Rattle.frame_alloc.specs.Ranges.{have_common, holds};
 ghost use Rattle.item_checks.specs.PrivateTakings.{Has, IsCovered, AreRisingPast, AreRising, AreClear};
 
 use crate::state::Taken;
-use frame_ranges::meets_any;
+use frame_alloc::meets_any;
 use std::alloc::{AllocError, Global};
 use std::collections::BTreeMap;
 use std::marker::Model;

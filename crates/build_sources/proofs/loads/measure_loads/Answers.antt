@@ -21,8 +21,8 @@ loop-index-preserved g c = record {
       (measured_more c.args.commands.now c.loop-index.index c.index-script-index.result (rw c.as_slice-script.ensures at c.loop-index-test.true) (rw c.as_slice-script.ensures at c.index-script-index.is)
       (g.F.Files.held c.args.files.now) (option_copied c.args.folder) (tree_load_of c.args.commands.now) c.args.bytes c.loop-index.sizes.items c.loop-index.invariant.measured
       _ (rw (c.loop-index.invariant.kept, c.tree_load-tree.ensures) at c.in-Ok.ensures.measured));
-  kept = c.measure_load.ensures.kept ∙ c.loop-index.invariant.kept;
-  grew = grew_twice _ _ _ c.loop-index.invariant.grew c.measure_load.ensures.grew;
+  kept = c.measure_load.ensures.only_read.held_kept ∙ c.loop-index.invariant.kept;
+  grew = grew_twice _ _ _ c.loop-index.invariant.grew c.measure_load.ensures.only_read.counted;
 }
 
 pub returns-clause-measured : goal.returns-clause-measured

@@ -23,8 +23,8 @@ loop-address-preserved g c = record {
       (read_more (g.F.Files.held c.args.files.now) (option_copied c.args.folder) c.args.loads.now c.args.addresses.now c.loop-address.address-index _ _ c.loop-address-test.true refl
       (trees_in c.loop-address.partials.items) c.loop-address.invariant.read
       _ (rw c.loop-address.invariant.kept at c.in-Ok.ensures.read));
-  kept = c.read_partial.ensures.kept ∙ c.loop-address.invariant.kept;
-  grew = grew_twice _ _ _ c.loop-address.invariant.grew c.read_partial.ensures.grew;
+  kept = c.read_partial.ensures.only_read.held_kept ∙ c.loop-address.invariant.kept;
+  grew = grew_twice _ _ _ c.loop-address.invariant.grew c.read_partial.ensures.only_read.counted;
 }
 
 pub returns-clause-read : goal.returns-clause-read

@@ -1,6 +1,6 @@
 use Rattle.std.proofs.Common.{rules, ◌≡◌, Err}
 use Rattle.std.specs.Option.{option_copied}
-use Rattle.run_steps.specs.Trees.{flat_tree}
+use Rattle.tree_files.specs.Trees.{flat_tree}
 use Rattle.build_sources.specs.Meant.{meant_stand}
 use Rattle.build_sources.specs.PrivateReplays.{AfterSized}
 use Rattle.build_sources.specs.Sources.{AfterLoadSizes}

@@ -12,8 +12,8 @@ returns-in-Err-clause-stopped g c =
 
 pub returns-in-Err-read_partials-clause-stopped : goal.returns-in-Err-read_partials-clause-stopped
 returns-in-Err-read_partials-clause-stopped g c =
-    partials_due (g.F.Files.held c.args.files.now) (meant_source c.args.source.now) (option_copied c.args.folder) (meant_stand c.in-Ok.stand) c.in-Ok.ensures.stands _ _ _ c.in-Ok.ensures.grew
-    c.in-Err-read_partials.stop (rw (c.folder_of.ensures, c.in-Ok.ensures.kept) at c.in-Err-read_partials.ensures.stopped)
+    partials_due (g.F.Files.held c.args.files.now) (meant_source c.args.source.now) (option_copied c.args.folder) (meant_stand c.in-Ok.stand) c.in-Ok.ensures.stands _ _ _ c.in-Ok.ensures.only_read.counted
+    c.in-Err-read_partials.stop (rw (c.folder_of.ensures, c.in-Ok.ensures.only_read.held_kept) at c.in-Err-read_partials.ensures.stopped)
 
 pub make_build-requires : goal.make_build-requires
 make_build-requires g c =
@@ -23,16 +23,16 @@ pub returns-clause-built : goal.returns-clause-built
 returns-clause-built g c =
     build_made (g.F.Files.held c.args.files.now) (meant_source c.args.source.now) (option_copied c.args.folder) (meant_stand c.in-Ok.stand) c.in-Ok.ensures.stands
     (description_of c.in-Ok.stand.tree c.in-Ok.stand.reserves c.in-Ok.stand.loads c.in-Ok-read_partials.partials.items)
-    (rw (c.folder_of.ensures, c.in-Ok.ensures.kept) at c.in-Ok-read_partials.ensures.read) c.make_build.result (rw c.deref.ensures.value at c.make_build.ensures.built)
+    (rw (c.folder_of.ensures, c.in-Ok.ensures.only_read.held_kept) at c.in-Ok-read_partials.ensures.read) c.make_build.result (rw c.deref.ensures.value at c.make_build.ensures.built)
 
 pub returns-clause-promised : goal.returns-clause-promised
 returns-clause-promised g c =
     build_promised (g.F.Files.held c.args.files.now) (meant_source c.args.source.now) (option_copied c.args.folder) (meant_stand c.in-Ok.stand) c.in-Ok.ensures.stands
     (description_of c.in-Ok.stand.tree c.in-Ok.stand.reserves c.in-Ok.stand.loads c.in-Ok-read_partials.partials.items)
-    (rw (c.folder_of.ensures, c.in-Ok.ensures.kept) at c.in-Ok-read_partials.ensures.read) c.in-Ok.ensures.edited c.make_build.result (rw c.deref.ensures.value at c.make_build.ensures.promised)
+    (rw (c.folder_of.ensures, c.in-Ok.ensures.only_read.held_kept) at c.in-Ok-read_partials.ensures.read) c.in-Ok.ensures.edited c.make_build.result (rw c.deref.ensures.value at c.make_build.ensures.promised)
 
 pub returns-clause-stopped : goal.returns-clause-stopped
 returns-clause-stopped g c =
     build_stopped (g.F.Files.held c.args.files.now) (meant_source c.args.source.now) (option_copied c.args.folder) (meant_stand c.in-Ok.stand) c.in-Ok.ensures.stands
     (description_of c.in-Ok.stand.tree c.in-Ok.stand.reserves c.in-Ok.stand.loads c.in-Ok-read_partials.partials.items)
-    (rw (c.folder_of.ensures, c.in-Ok.ensures.kept) at c.in-Ok-read_partials.ensures.read) _ _ c.make_build.result (rw c.deref.ensures.value at c.make_build.ensures.stopped)
+    (rw (c.folder_of.ensures, c.in-Ok.ensures.only_read.held_kept) at c.in-Ok-read_partials.ensures.read) _ _ c.make_build.result (rw c.deref.ensures.value at c.make_build.ensures.stopped)

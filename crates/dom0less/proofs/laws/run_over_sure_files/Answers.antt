@@ -1,14 +1,15 @@
-use Rattle.std.proofs.Common.{◌≡◌, ℕ, List, Some, map, string_bytes, subst, inl, inr, arith}
+use Rattle.std.proofs.Common.{ℕ, List, Some, map, string_bytes, subst, inl, inr}
 use Rattle.run_steps.specs.Endings.{Refuses, Said}
 use Rattle.dom0less.specs.Job.{IsJob}
 use Rattle.dom0less.specs.Lines.{line}
-use Rattle.dom0less.proofs.Absences.{names_absent, never_rises}
+use Rattle.run_steps.proofs.Due.{never_rises}
+use Rattle.dom0less.proofs.Absences.{names_absent}
 use Rattle.dom0less.proofs.laws.run_over_sure_files.Goals as goal
 
 pub returns-clause-absent : goal.returns-clause-absent
 returns-clause-absent g c = λ is.
     let words : List (List ℕ) = map string_bytes c.args.words.now in
-    let said = c.run.ensures.read is in
+    let said = c.run.ensures.ran.read is in
     elim said.2 [
       | inl failed ↦ absurd (never_rises failed.0)
       | inr missed ↦
@@ -21,7 +22,7 @@ returns-clause-absent g c = λ is.
 
 pub returns-clause-exact : goal.returns-clause-exact
 returns-clause-exact g c = λ outcome job.
-    elim (c.run.ensures.exact outcome job) [
+    elim (c.run.ensures.ran.exact outcome job) [
       | inl rose ↦ absurd (never_rises rose)
       | inr answered ↦ inr answered
     ]

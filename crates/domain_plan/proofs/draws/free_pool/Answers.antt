@@ -2,7 +2,7 @@ use Rattle.std.proofs.Common.{◌≡◌, ◌^◌, ◌+◌, ◌≤◌, ◌∙◌,
 use Rattle.std.proofs.lemmas.List.Elements.{All-map}
 use Rattle.texts.specs.declared.ranges.FrameRange.{FrameRange}
 use Rattle.frame_alloc.specs.Frames.{frames_in}
-use Rattle.frame_ranges.specs.Ranges.{holds}
+use Rattle.frame_alloc.specs.Ranges.{holds}
 use Rattle.item_checks.specs.declared.state.Taken.{Taken}
 use Rattle.domain_plan.proofs.GuestDraws.{left_free}
 use Rattle.domain_plan.proofs.draws.free_pool.Goals as goal

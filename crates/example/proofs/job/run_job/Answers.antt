@@ -1,4 +1,4 @@
-use Rattle.std.proofs.Common.{◌≡◌, ℕ, List, subst}
+use Rattle.std.proofs.Common.{◌≡◌, ℕ, List, subst, inl, inr}
 use Rattle.std.specs.Prelude.{Option}
 use Rattle.outside.specs.Outside.{File}
 use Rattle.outside.specs.declared.status.Status.{Status}
@@ -14,5 +14,7 @@ refused_by told line status words of is same due =
 
 pub returns-clause-refused : goal.returns-clause-refused
 returns-clause-refused g c is =
-    let due = c.run-status.ensures.refused is in
-    (due.0, refused_by (g.F.Files.held c.args.files.now) due.0 c.run-status.result _ _ is c.in_ok-words.ensures (rw c.deref.ensures.value at due.2))
+    elim (c.run-status.ensures.ran.found (inl is)) [
+      | inl said ↦ (said.0, refused_by (g.F.Files.held c.args.files.now) said.0 c.run-status.result _ _ is c.in_ok-words.ensures (rw c.deref.ensures.value at said.2))
+      | inr list ↦ absurd (c.run-status.ensures.no_list c.run-status.result list.0 list.1)
+    ]

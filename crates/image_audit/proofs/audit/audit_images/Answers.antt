@@ -27,8 +27,8 @@ loop-guest-preserved g c =
     record {
       audited = audited_next told folder c.args.guests.now c.in_ok-unmapped.unmapped c.in_ok-unmapped.ensures c.loop-guest.guest-index c.guest-item.result c.loop-guest-test.true c.guest-item.is c.loop-guest.free c.loop-guest.invariant.audited
           c.in-Ok.left (rw (c.loop-guest.invariant.kept, c.as_slice.ensures, c.as_slice-in-loop-guest.ensures) at c.in-Ok.ensures.audited);
-      kept = c.audit_image.ensures.kept ∙ c.loop-guest.invariant.kept;
-      grew = grew_twice _ _ _ c.loop-guest.invariant.grew c.audit_image.ensures.grew;
+      kept = c.audit_image.ensures.only_read.held_kept ∙ c.loop-guest.invariant.kept;
+      grew = grew_twice _ _ _ c.loop-guest.invariant.grew c.audit_image.ensures.only_read.counted;
     }
 
 -- all are audited

@@ -1,6 +1,6 @@
 use Rattle.std.proofs.Common.{◌≡◌, take}
 use Rattle.std.specs.Option.{option_copied}
-use Rattle.run_steps.specs.Stops.{Grew}
+use Rattle.outside.specs.Reads.{Grew}
 use Rattle.image_audit.proofs.AuditLoop.{AuditedUpTo}
 use Rattle.image_audit.proofs.audit.audit_images.Given as goal
 
@@ -9,5 +9,5 @@ abbrev pub invariant-loop-guest : goal.invariant-loop-guest
 invariant-loop-guest g l = record {
   audited : AuditedUpTo (g.F.Files.held l.initial.files) (option_copied l.folder) l.guests (take l.guest-index l.guests) l.free;
   kept : g.F.Files.held l.files ≡ g.F.Files.held l.initial.files;
-  grew : Grew (g.F.Files.faults l.initial.files, g.F.Files.absents l.initial.files, g.F.Files.overlong l.initial.files) (g.F.Files.faults l.files, g.F.Files.absents l.files, g.F.Files.overlong l.files);
+  grew : Grew (g.F.Files.counts l.initial.files) (g.F.Files.counts l.files);
 }

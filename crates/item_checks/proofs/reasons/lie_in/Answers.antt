@@ -1,8 +1,8 @@
 use Rattle.std.proofs.Common.{◌≡◌, ◌+◌, true, false, ◌&&◌, get_or, drop, ◌∷◌, [], refl, sym, ap, ◌∙◌}
 use Rattle.std.proofs.lemmas.List.{drop_more, drop_all}
 use Rattle.texts.specs.declared.ranges.FrameRange.{FrameRange}
-use Rattle.frame_ranges.specs.Ranges.{lie_in}
-use Rattle.frame_ranges.proofs.CoverLemmas.{lie_in-cons, lie_in-none}
+use Rattle.frame_alloc.specs.Ranges.{lie_in}
+use Rattle.frame_alloc.proofs.CoverLemmas.{lie_in-cons, lie_in-none}
 use Rattle.item_checks.proofs.reasons.lie_in.Goals as goal
 
 pub returns-then-not-lies_in : goal.returns-then-not-lies_in

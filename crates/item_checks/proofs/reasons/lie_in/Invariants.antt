@@ -1,5 +1,5 @@
 use Rattle.std.proofs.Common.{◌≡◌, drop}
-use Rattle.frame_ranges.specs.Ranges.{lie_in}
+use Rattle.frame_alloc.specs.Ranges.{lie_in}
 use Rattle.item_checks.proofs.reasons.lie_in.Given as goal
 
 -- the ranges before the index are of the host's memory

@@ -1,9 +1,9 @@
 use Rattle.std.proofs.Common.{◌≡◌, false, ◌||◌, Bool, List, ◌∷◌, [], refl, sym, ap, ◌∙◌}
 use Rattle.described.specs.declared.layout.Layout.{Layout}
 use Rattle.texts.specs.declared.ranges.FrameRange.{FrameRange}
-use Rattle.frame_ranges.specs.Ranges.{touched, have_common}
+use Rattle.frame_alloc.specs.Ranges.{touched, have_common}
 use Rattle.item_checks.specs.Reasons.{area_pages}
-use Rattle.frame_ranges.proofs.CommonFrames.{common-cons_left, or_left, or_right}
+use Rattle.frame_alloc.proofs.CommonFrames.{common-cons_left, or_left, or_right}
 use Rattle.item_checks.proofs.reasons.meet_areas.Goals as goal
 
 by_areas : (layout : Layout) (pages : List FrameRange) → have_common (area_pages layout) pages ≡

@@ -1,6 +1,6 @@
 use Rattle.std.proofs.Common.{[], ◌∷◌, not, Option, sym, ap}
 use Rattle.std.specs.Prelude.{option_map, option_and_then, slice_get}
-use Rattle.frame_ranges.specs.Ranges.{have_common}
+use Rattle.frame_alloc.specs.Ranges.{have_common}
 use Rattle.item_checks.specs.declared.state.Taken.{Taken}
 use Rattle.item_checks.specs.PrivateStanding.{is_region_at}
 use Rattle.item_checks.proofs.TakingsLemmas.{none_of_kind}

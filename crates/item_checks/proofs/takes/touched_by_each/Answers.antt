@@ -3,7 +3,7 @@ use Rattle.std.proofs.lemmas.List.{map_push, take_more}
 use Rattle.std.proofs.lemmas.List.Elements.{All-append, All-cons, All-nil}
 use Rattle.texts.specs.declared.ranges.BaseSize.{BaseSize}
 use Rattle.texts.specs.declared.ranges.FrameRange.{FrameRange}
-use Rattle.frame_ranges.specs.Ranges.{touched}
+use Rattle.frame_alloc.specs.Ranges.{touched}
 use Rattle.item_checks.proofs.takes.touched_by_each.Goals as goal
 
 take_mapped : (entries : List BaseSize) (i : ℕ) → i < length entries → map touched (take (i + 1) entries) ≡ map touched (take i entries) ++ touched (get_or entries i (record { base = 0; size = 0 })) ∷ []

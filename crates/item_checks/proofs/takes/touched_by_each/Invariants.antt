@@ -1,6 +1,6 @@
 use Rattle.std.proofs.Common.{◌≡◌, ◌+◌, ◌^◌, ◌≤◌, take, map, All}
 use Rattle.texts.specs.declared.ranges.FrameRange.{FrameRange}
-use Rattle.frame_ranges.specs.Ranges.{touched}
+use Rattle.frame_alloc.specs.Ranges.{touched}
 use Rattle.item_checks.proofs.takes.touched_by_each.Given as goal
 
 -- the entries before the index were added

@@ -4,7 +4,7 @@ use Rattle.described.specs.Reasons.{where_so}
 use Rattle.std.proofs.lemmas.Result.{IfOk-weaker}
 use Rattle.described.specs.declared.why.Why.{Why}
 use Rattle.described.specs.declared.why.Why.TheVariants as whys
-use Rattle.frame_ranges.specs.Ranges.{lie_in, have_common}
+use Rattle.frame_alloc.specs.Ranges.{lie_in, have_common}
 use Rattle.item_checks.specs.Taken.{what_of}
 use Rattle.item_checks.specs.Reasons.{naming_first, area_pages, layout_at}
 use Rattle.item_checks.specs.Standing.{claims_taken, pages_taken}

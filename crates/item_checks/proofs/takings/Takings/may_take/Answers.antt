@@ -1,5 +1,5 @@
 use Rattle.std.proofs.Common.{◌≡◌, true, List, map, sym, subst}
-use Rattle.frame_ranges.specs.Ranges.{holds}
+use Rattle.frame_alloc.specs.Ranges.{holds}
 use Rattle.item_checks.specs.declared.state.Taken.{Taken}
 use Rattle.item_checks.proofs.TakingsLemmas.{none_takes}
 use Rattle.item_checks.proofs.takings.Takings.may_take.Goals as goal
