@@ -5,8 +5,8 @@ use Rattle.std.proofs.lemmas.Bool.Decides.{nat_tests}
 use Rattle.std.proofs.lemmas.List.{length-drop}
 use Rattle.std.proofs.lemmas.List.Elements.{All-head, All-tail}
 use Rattle.std.proofs.lemmas.List.Sums.{count_by-le-length, length-filter, sum-map, sum_by-cons}
-use Rattle.build_report.specs.Lines.{ram_pages}
-use Rattle.build_report.proofs.Bounds.{few_pages}
+use Rattle.build_outputs.specs.ReportLines.{ram_pages}
+use Rattle.build_outputs.proofs.MapBounds.{few_pages}
 use Rattle.described.specs.Maps.{AreMapRanges}
 use Rattle.described.specs.declared.why.Why.{Why}
 use Rattle.described.specs.declared.why.Why.TheVariants.{NoTableFrame}

@@ -4,3 +4,5 @@ mod Reports
 mod Zipped
 mod Folders
 mod Counts
+mod MapBounds
+mod ReportRows

@@ -3,7 +3,7 @@ use Rattle.std.proofs.Common.{◌≡◌, ◌∙◌, sym, ap, subst, ℕ, ◌+◌
 use Rattle.std.specs.Prelude.{flat_map}
 use Rattle.std.proofs.lemmas.List.{get_or-map, length-map, map_more, take-map, append-nil}
 use Rattle.std.proofs.lemmas.Grind.{flat_map-append}
-use Rattle.build_report.specs.Report.{guest_lines}
+use Rattle.build_outputs.specs.Report.{guest_lines}
 use Rattle.domain_plan.specs.declared.planned.GuestPlan.{GuestPlan}
 use Rattle.guest_images.specs.Built.{tables_counted}
 use Rattle.guest_images.specs.Requests.{tables_needed}

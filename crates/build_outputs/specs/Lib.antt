@@ -6,4 +6,6 @@ pub mod Outputs
 pub mod PrivateSpelled
 pub mod PrivateTooLong
 pub mod Promises
+pub mod Report
+pub mod ReportLines
 pub mod Totals

@@ -8,7 +8,7 @@ use Rattle.fdt_write.specs.Flattened.{flattened}
 use Rattle.guest_fdt.specs.GuestTree.{guest_tree}
 use Rattle.guest_images.specs.Images.{least_files}
 use Rattle.guest_images.specs.Requests.{tables_needed, left_by_all}
-use Rattle.build_report.specs.Report.{report}
+use Rattle.build_outputs.specs.Report.{report}
 use Rattle.run_steps.specs.Names.{joined}
 use Rattle.domain_plan.specs.Descriptions.{Description, partial_at}
 use Rattle.domain_plan.specs.TreePlans.{TreePlan}

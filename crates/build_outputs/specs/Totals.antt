@@ -1,6 +1,6 @@
 -- What a build comes to over all guests.
 use Rattle.std.specs.Prelude.{ℕ, List, length, sum_by}
-use Rattle.build_report.specs.Lines.{ram_pages}
+use Rattle.build_outputs.specs.ReportLines.{ram_pages}
 use Rattle.domain_plan.specs.declared.planned.GuestPlan.{GuestPlan}
 use Rattle.guest_images.specs.Requests.{tables_needed}
 use Rattle.domain_plan.specs.TreePlans.{TreePlan}

@@ -7,10 +7,13 @@ mod lengths;
 mod names;
 mod refusals;
 mod report;
+mod report_guests;
+mod report_lines;
 mod totals;
 mod trees;
 mod written;
 
 pub use build::{Built, build_described};
 pub use refusals::plan_stop;
+pub use report_lines::append_generated;
 pub use totals::Totals;

@@ -3,10 +3,11 @@ ghost use Rattle.std.specs.Prelude.{◌≡◌, All, IfOk, map};
 ghost use Rattle.described.specs.Maps.{AreMapRanges};
 ghost use Rattle.guest_images.specs.Built.{tables_counted};
 ghost use Rattle.guest_images.specs.Requests.{tables_needed};
-ghost use Rattle.build_report.specs.Report.{report as the_report};
+ghost use Rattle.build_outputs.specs.Report.{report as the_report};
 ghost use Rattle.build_outputs.specs.Outputs.{with_tables};
 
-use build_report::{append_free, append_guest};
+use crate::report_guests::append_guest;
+use crate::report_lines::append_free;
 use domain_plan::GuestPlan;
 use guest_images::GuestImage;
 use std::alloc::{AllocError, Global};

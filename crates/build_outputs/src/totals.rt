@@ -5,7 +5,7 @@ ghost use Rattle.guest_images.specs.Built.{tables_counted};
 ghost use Rattle.guest_images.specs.Requests.{tables_needed};
 ghost use Rattle.build_outputs.specs.Totals.{all_pages, all_tables};
 
-use build_report::ram_pages;
+use crate::report_guests::ram_pages;
 use domain_plan::GuestPlan;
 use guest_images::GuestImage;
 

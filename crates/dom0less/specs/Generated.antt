@@ -1,6 +1,6 @@
 -- The build of a generated tree, of which nothing is written.
 use Rattle.std.specs.Prelude.{ℕ, List, []}
-use Rattle.build_report.specs.Lines.{generated_line}
+use Rattle.build_outputs.specs.ReportLines.{generated_line}
 use Rattle.run_steps.specs.Endings.{Outcome}
 use Rattle.run_steps.specs.Steps.{IsWriting}
 use Rattle.tree_generator.specs.Generated.{generated_tree}

@@ -5,8 +5,7 @@ ghost use Rattle.run_steps.specs.PrivateOutcomes.{outcome_of};
 ghost use Rattle.run_steps.specs.Stops.{IsOwnDue};
 ghost use Rattle.dom0less.specs.Generated.{IsGeneratedJob, totals_line};
 
-use build_outputs::{Totals, build_described};
-use build_report::append_generated;
+use build_outputs::{Totals, append_generated, build_described};
 use run_steps::{Build, Stop};
 use std::alloc::{AllocError, Global};
 use texts::{Bytes, List};

@@ -1,6 +1,6 @@
 use Rattle.std.proofs.Common.{◌≡◌, ◌<◌, ◌≤◌, ◌+◌, ◌*◌, ◌^◌, ◌∙◌, ◌∷◌, sym, ap, ap₂, subst, arith, length, ℕ, List, All}
 use Rattle.std.specs.Option.{option_copied}
-use Rattle.build_report.specs.Report.{report}
+use Rattle.build_outputs.specs.Report.{report}
 use Rattle.outside.specs.Outside.{File}
 use Rattle.guest_fdt.specs.Bounds.{IsBounded}
 use Rattle.guest_fdt.specs.GuestTree.{guest_tree}

@@ -1,5 +1,5 @@
 use Rattle.std.proofs.Common.{◌≡◌, ◌∙◌, ap, ◌++◌, get_or, List, ℕ}
-use Rattle.build_report.specs.Report.{guest_lines}
+use Rattle.build_outputs.specs.Report.{guest_lines}
 use Rattle.guest_images.specs.declared.images.GuestImage.{GuestImage}
 use Rattle.build_outputs.proofs.Reports.{lines_more}
 use Rattle.build_outputs.proofs.report.make_report.Goals as goal

@@ -1,5 +1,5 @@
 use Rattle.std.proofs.Common.{◌≡◌, take, flat_map}
-use Rattle.build_report.specs.Report.{guest_lines}
+use Rattle.build_outputs.specs.Report.{guest_lines}
 use Rattle.build_outputs.specs.Outputs.{with_tables}
 use Rattle.build_outputs.proofs.report.make_report.Given as goal
 

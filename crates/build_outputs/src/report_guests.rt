@@ -1,11 +1,11 @@
 // The lines of a guest.
 ghost use Rattle.std.specs.Prelude.{◌≡◌, ◌++◌, All, OnOk, flat_map};
 ghost use Rattle.described.specs.Maps.{AreMapRanges};
-ghost use Rattle.build_report.specs.Lines.{port_line, ram_pages, spi_line};
+ghost use Rattle.build_outputs.specs.ReportLines.{port_line, ram_pages, spi_line};
 ghost use Rattle.described.specs.RunLines.{run_line, HasAddresses};
-ghost use Rattle.build_report.specs.Report.{guest_lines};
+ghost use Rattle.build_outputs.specs.Report.{guest_lines};
 
-use crate::lines::{append_head, append_port, append_spi, pages_in};
+use crate::report_lines::{append_head, append_port, append_spi, pages_in};
 use described::{MapRange, append_run};
 use domain_plan::GuestPlan;
 use std::alloc::{AllocError, Global};
@@ -15,7 +15,7 @@ use texts::Bytes;
 /// line for each run of its map, each interrupt and each port. Addresses are in bytes and hexadecimal, all counts in
 /// decimal; a page has 4,096 bytes. After want of memory part of it may stand in the report.
 #[tactic(auto, unfolding(crate::specs::Report::guest_lines))]
-pub fn append_guest(
+pub(crate) fn append_guest(
     alloc: Global,
     report: &mut Bytes,
     plan: &GuestPlan,
@@ -31,7 +31,7 @@ pub fn append_guest(
 }
 
 /// A guest's pages of memory, of 4,096 bytes each.
-pub fn ram_pages(plan: &GuestPlan) -> u64
+pub(crate) fn ram_pages(plan: &GuestPlan) -> u64
     requires { AreMapRanges plan.now.ranges }
     ensures { result ≡ ram_pages plan.now.ranges }
 {

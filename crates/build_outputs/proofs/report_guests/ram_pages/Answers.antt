@@ -1,7 +1,7 @@
 use Rattle.std.proofs.Common.{◌+◌, ◌^◌, ◌<◌, ◌≤◌, arith}
-use Rattle.build_report.specs.Lines.{ram_pages}
-use Rattle.build_report.proofs.Bounds.{few_pages}
-use Rattle.build_report.proofs.guest.ram_pages.Goals as goal
+use Rattle.build_outputs.specs.ReportLines.{ram_pages}
+use Rattle.build_outputs.proofs.MapBounds.{few_pages}
+use Rattle.build_outputs.proofs.report_guests.ram_pages.Goals as goal
 
 pub pages_in-requires : goal.pages_in-requires
 pages_in-requires c =

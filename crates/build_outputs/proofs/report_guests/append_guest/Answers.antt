@@ -1,7 +1,7 @@
 use Rattle.std.proofs.Common.{◌+◌, ◌^◌, ◌≤◌, arith}
-use Rattle.build_report.specs.Lines.{ram_pages}
-use Rattle.build_report.proofs.Bounds.{have_addresses, few_pages}
-use Rattle.build_report.proofs.guest.append_guest.Goals as goal
+use Rattle.build_outputs.specs.ReportLines.{ram_pages}
+use Rattle.build_outputs.proofs.MapBounds.{have_addresses, few_pages}
+use Rattle.build_outputs.proofs.report_guests.append_guest.Goals as goal
 
 pub append_head-requires : goal.append_head-requires
 append_head-requires c =

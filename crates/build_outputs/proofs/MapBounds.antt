@@ -7,7 +7,7 @@ use Rattle.described.specs.declared.map_range.Kind.{Kind}
 use Rattle.described.specs.declared.map_range.Kind.TheVariants.{Ram, Device, Shared}
 use Rattle.described.specs.declared.map_range.MapRange.{MapRange}
 use Rattle.described.specs.RunLines.{HasAddresses}
-use Rattle.build_report.specs.Lines.{ram_in, ram_pages}
+use Rattle.build_outputs.specs.ReportLines.{ram_in, ram_pages}
 
 -- its pages and frames have addresses
 pub have_addresses : (ranges : List MapRange) (start : ℕ) → AreSortedFrom start ranges → All HasAddresses ranges

@@ -1,6 +1,6 @@
 // The lines of a report, each added to those before. After want of memory part of a line may stand there.
 ghost use Rattle.std.specs.Prelude.{◌≡◌, ◌++◌, ◌<◌, ◌^◌, OnOk, codes, decimal};
-ghost use Rattle.build_report.specs.Lines.{spi_line, peer_text, port_line, name_text, counts_text, head_line, free_line, counted, generated_line, ram_in, ram_pages};
+ghost use Rattle.build_outputs.specs.ReportLines.{spi_line, peer_text, port_line, name_text, counts_text, head_line, free_line, counted, generated_line, ram_in, ram_pages};
 
 use described::{Kind, MapRange};
 use domain_plan::GuestPlan;
@@ -11,7 +11,7 @@ use texts::Bytes;
 const DOM0: u64 = 0xffff_ffff;
 
 /// Adds the line of the frames that are left. After want of memory part of it may stand in the report.
-pub fn append_free(alloc: Global, report: &mut Bytes, frames: u64) -> Result<(), AllocError>
+pub(crate) fn append_free(alloc: Global, report: &mut Bytes, frames: u64) -> Result<(), AllocError>
     ensures { OnOk result (report.new ≡ report.old ++ free_line frames) }
 {
     report.append(b"free ")?;
