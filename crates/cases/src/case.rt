@@ -1,5 +1,5 @@
 // What a case runs: a program, the words of its run, and what it meets outside.
-use example::run_job;
+use crate::example::run_job;
 use outside::{Files, MemFiles, MemOuts, MemSink, Status};
 use std::alloc::{AllocError, Global};
 use std::marker::Model;
@@ -148,7 +148,7 @@ impl Case {
         }
     }
 
-    /// Lets the crate `example` run over the files, with two words behind the name of `dom0less`, and takes over what that
+    /// Lets the example run over the files, with two words behind the name of `dom0less`, and takes over what that
     /// wrote.
     pub(crate) fn run_example(
         &mut self,

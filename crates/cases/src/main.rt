@@ -8,6 +8,7 @@ mod audits;
 mod case;
 mod content;
 mod cuts;
+mod example;
 mod failing;
 mod images;
 mod lines;

@@ -4,7 +4,7 @@
 //     cut NAME          the run is made for the first lines of this file, with one more each time
 //     trim NAME COUNT   the run is made so many times, and this file has one byte less at its end each time
 //     audit outputs     the run is made again, with the word `--check`, over what it wrote
-//     example TEXT      the crate `example` makes the run, with these two words behind the name of `dom0less`
+//     example TEXT      the worked example makes the run, with these two words behind the name of `dom0less`
 use crate::audits::audit;
 use crate::case::Case;
 use crate::cuts::{Cutting, show_cuts};

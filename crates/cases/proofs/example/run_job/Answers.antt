@@ -5,7 +5,7 @@ use Rattle.outside.specs.declared.status.Status.{Status}
 use Rattle.outside.specs.declared.status.Status.TheVariants.{Refused}
 use Rattle.run_steps.specs.Endings.{Refuses}
 use Rattle.dom0less.specs.Job.{CallsFor}
-use Rattle.example.proofs.job.run_job.Goals as goal
+use Rattle.cases.proofs.example.run_job.Goals as goal
 
 -- a refusal that equal words call for, with its status by name
 refused_by : (told : Option (List File)) (line : List ℕ) (status : Status) (words of : List (List ℕ)) → status ≡ Refused → words ≡ of → CallsFor words told (Refuses status line) → CallsFor of told (Refuses Refused line)

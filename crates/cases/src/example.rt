@@ -37,11 +37,7 @@ fn words_of(alloc: Global, more: &[&str]) -> Result<Vec<String>, AllocError>
 
 /// Runs over files with these words behind the program's name. A build has taken what the words and the files call for,
 /// and a refused description is refused by them. Its only error is want of memory.
-pub fn run_job<F: Files>(
-    alloc: Global,
-    files: &mut F,
-    more: &[&str],
-) -> Result<Job, AllocError>
+pub fn run_job<F: Files>(alloc: Global, files: &mut F, more: &[&str]) -> Result<Job, AllocError>
     ensures built { IfOk result (λ job. job.status ≡ Status.Built → CallsFor (codes "dom0less" ∷ map (λ word. word.now) more.now) (F.held files.old) (Builds job.outs.written job.out.bytes)) }
     ensures refused { IfOk result (λ job. job.status ≡ Status.Refused → (line : _) × CallsFor (codes "dom0less" ∷ map (λ word. word.now) more.now) (F.held files.old) (Refuses Status.Refused line)) }
 {
