@@ -1,5 +1,5 @@
 -- What a run that ends with status 0 has printed or written.
-use Rattle.std.proofs.Common.{◌≡◌, subst, refl, ℕ, List, [], ◌∷◌, Option, Some, None, inl, inr}
+use Rattle.std.proofs.Common.{◌≡◌, refl, ℕ, List, [], ◌∷◌, Option, Some, None, inl, inr}
 use Rattle.outside.specs.Outside.{File}
 use Rattle.run_steps.specs.Endings.{Builds}
 use Rattle.tree_files.specs.Trees.{FlatTree, AfterTreeFile, IsTreeFile}

@@ -1,4 +1,4 @@
-use Rattle.std.proofs.Common.{◌≡◌, ◌∙◌, ap, subst, refl, inl, inr, map, string_bytes}
+use Rattle.std.proofs.Common.{◌∙◌, ap, subst, refl, inl, inr, map, string_bytes}
 use Rattle.outside.specs.Outside.{and_bytes}
 use Rattle.outside.specs.declared.status.Status.{Status}
 use Rattle.run_steps.specs.Endings.{Refuses, and_files}
