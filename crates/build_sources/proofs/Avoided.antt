@@ -133,7 +133,7 @@ module _ (status : Status) (other : IsOfNoFile status) where
         host_tree_avoids : (settings : Settings) (tree : FlatTree) → Avoids status (AfterHostTree settings tree)
         host_tree_avoids settings tree =
             both_avoid (AreFileSizes told folder settings tree) status (AfterFileSizes told folder settings tree) (λ sizes next. AfterScript folder kind settings tree sizes (λ script. next (made_with settings tree sizes script)))
-            (file_sizes_step told name folder kind settings tree) (sizes_avoid status other told (map (joined folder) (other_files settings))) (script_avoids folder kind settings tree)
+            (file_sizes_step told folder settings tree) (sizes_avoid status other told (map (joined folder) (other_files settings))) (script_avoids folder kind settings tree)
 
         host_avoids : (settings : Settings) → Avoids status (AfterHost told folder kind settings)
         host_avoids settings =

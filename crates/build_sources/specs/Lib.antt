@@ -3,6 +3,7 @@ pub mod Edited
 pub mod Handed
 pub mod Meant
 pub mod Partials
+pub mod PrivateMaking
 pub mod PrivateReplays
 pub mod Scripts
 pub mod Sources

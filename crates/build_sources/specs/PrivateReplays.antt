@@ -2,12 +2,19 @@
 use Rattle.std.specs.Prelude.{List, Option, ℕ}
 use Rattle.outside.specs.Outside.{File}
 use Rattle.ib_script.specs.declared.command.Command.{Command}
+use Rattle.script_run.specs.Effect.{loads_of}
 use Rattle.dom0less_words.specs.Words.{Word}
 use Rattle.run_steps.specs.Endings.{Outcome}
 use Rattle.tree_files.specs.Trees.{FlatTree, AfterTreeFile}
 use Rattle.build_sources.specs.Configs.{Made}
 use Rattle.build_sources.specs.Scripts.{script_name}
 use Rattle.build_sources.specs.Sources.{Stand, AfterRun, AfterLoadSizes, config_stand, replay_stand}
+
+-- a script is run on a tree, with the sizes of its loads, behind these outputs and lines
+abbrev pub AfterAnnounced : List File → List ℕ → List Command → FlatTree → List ℕ → (Stand → Outcome → Type 0) → Outcome → Type 0
+AfterAnnounced before lines commands file sizes next outcome =
+    AfterRun script_name commands file.root
+    (λ root. next (record { root = root; reserves = file.reserves; boot = file.boot; loads = loads_of commands sizes file.length; before = before; lines = lines })) outcome
 
 -- the script of a configuration is run
 abbrev pub AfterMadeRun : Option Word → Made → (Stand → Outcome → Type 0) → Outcome → Type 0

@@ -6,15 +6,16 @@ use Rattle.outside.specs.declared.status.Status.TheVariants as statuses
 use Rattle.fdt_tree.specs.Tree.{Tree}
 use Rattle.run_steps.specs.Endings.{Refuses}
 use Rattle.run_steps.specs.Steps.{IsRefusal, OnResult}
-use Rattle.run_steps.specs.Trees.{FlatTree, AfterTreeFile, IsTreeFile}
+use Rattle.tree_files.specs.Trees.{FlatTree, AfterTreeFile, IsTreeFile}
 use Rattle.run_steps.proofs.Step.{Avoids, hand_on, hand_on_avoids, both_avoid}
-use Rattle.run_steps.proofs.ReadingSteps.{tree_file_step}
-use Rattle.run_steps.proofs.Avoided.{IsOfNoFile, tree_avoids}
+use Rattle.tree_files.proofs.TreeSteps.{tree_file_step}
+use Rattle.run_steps.proofs.Avoided.{IsOfNoFile}
+use Rattle.tree_files.proofs.TreeSteps.{tree_avoids}
 use Rattle.overlaid_trees.specs.declared.fault.OverlayFault.{OverlayFault}
 use Rattle.overlaid_trees.specs.Applied.{applied}
 use Rattle.fdt_overlay.specs.Lines.{fault_message}
 use Rattle.fdt_overlay.specs.Asked.{Asked}
-use Rattle.fdt_overlay.specs.Overlays.{Made, made_of, AfterApplied, AfterOverlay, AfterOverlays, AfterAll}
+use Rattle.fdt_overlay.specs.Overlays.{Overlaid, made_of, AfterApplied, AfterOverlay, AfterOverlays, AfterAll}
 use Rattle.fdt_overlay.specs.Job.{IsOutput, IsAskedJob}
 use Rattle.fdt_overlay.specs.PrivateSteps.{IsApplied, AreApplied}
 use Rattle.fdt_overlay.proofs.OverlaySteps.{AfterTheBase, overlay_step, overlays_step, all_step}
@@ -47,17 +48,17 @@ module _ (told : Option (List File)) where
   module _ (asked : Asked) where
     after_base_avoids : (base : FlatTree) → Avoids statuses.Differs (AfterTheBase told asked base)
     after_base_avoids base =
-        both_avoid {B = Made} (AreApplied told asked.overlays base.root) statuses.Differs (AfterOverlays told asked.overlays base.root) (λ root. hand_on (made_of base root)) (overlays_step told asked.overlays base.root)
-        (overlays_avoid asked.overlays base.root) (λ root. hand_on_avoids {A = Made} statuses.Differs (made_of base root))
+        both_avoid {B = Overlaid} (AreApplied told asked.overlays base.root) statuses.Differs (AfterOverlays told asked.overlays base.root) (λ root. hand_on (made_of base root)) (overlays_step told asked.overlays base.root)
+        (overlays_avoid asked.overlays base.root) (λ root. hand_on_avoids {A = Overlaid} statuses.Differs (made_of base root))
 
     -- reading and applying all of them
     all_avoid : Avoids statuses.Differs (AfterAll told asked)
     all_avoid =
-        both_avoid {B = Made} (IsTreeFile told asked.base) statuses.Differs (AfterTreeFile told asked.base) (AfterTheBase told asked) (tree_file_step told asked.base)
+        both_avoid {B = Overlaid} (IsTreeFile told asked.base) statuses.Differs (AfterTreeFile told asked.base) (AfterTheBase told asked) (tree_file_step told asked.base)
         (tree_avoids statuses.Differs difference_of_no_file told asked.base) after_base_avoids
 
 -- writing what they made
-output_avoids : (out : List ℕ) (made : Made) (message : List ℕ) → IsOutput out made (Refuses statuses.Differs message) → ⊥
+output_avoids : (out : List ℕ) (made : Overlaid) (message : List ℕ) → IsOutput out made (Refuses statuses.Differs message) → ⊥
 output_avoids out made message (inl refused) = no_overlay refused.1.0
 output_avoids out made message (inr fits) = fits.1
 

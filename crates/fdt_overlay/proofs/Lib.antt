@@ -1,5 +1,7 @@
 pub mod Avoided
-pub mod Exact
+pub mod Never
 pub mod OneOutcome
 pub mod OverlaySteps
+pub mod Promised
+pub mod Quiet
 pub mod Written

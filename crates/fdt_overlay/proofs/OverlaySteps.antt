@@ -9,18 +9,18 @@ use Rattle.run_steps.specs.Endings.{Outcome, Refuses}
 use Rattle.overlaid_trees.specs.declared.fault.OverlayFault.{OverlayFault}
 use Rattle.overlaid_trees.specs.declared.fault.OverlayFault.TheVariants.{Memory}
 use Rattle.run_steps.specs.Steps.{IsRefusal, OnResult, GiveEach, nothing}
-use Rattle.run_steps.specs.Trees.{FlatTree, AfterTreeFile, IsTreeFile}
+use Rattle.tree_files.specs.Trees.{FlatTree, AfterTreeFile, IsTreeFile}
 use Rattle.run_steps.proofs.Step.{Next, IsStep, and_then, hand_on, hand_on_step, on_result_step}
-use Rattle.run_steps.proofs.ReadingSteps.{tree_file_step}
+use Rattle.tree_files.proofs.TreeSteps.{tree_file_step}
 use Rattle.overlaid_trees.specs.Turns.{each}
 use Rattle.overlaid_trees.specs.Applied.{applied, all_applied}
 use Rattle.fdt_overlay.specs.Lines.{fault_message}
 use Rattle.fdt_overlay.specs.Asked.{Asked}
-use Rattle.fdt_overlay.specs.Overlays.{AfterApplied, AfterOverlay, AfterOverlays, Made, made_of, AfterAll, IsMade}
+use Rattle.fdt_overlay.specs.Overlays.{AfterApplied, AfterOverlay, AfterOverlays, Overlaid, made_of, AfterAll, IsOverlaid}
 use Rattle.fdt_overlay.specs.PrivateSteps.{IsApplied, AreApplied, IsFound}
 
 pub applied_step : (name : List ℕ) (base overlay : Tree) → IsStep (λ made. applied base overlay ≡ Ok made) (AfterApplied name base overlay)
-applied_step name base overlay = on_result_step (λ fault. IsRefusal statuses.Refused (fault_message name fault)) (λ fault outputs report p. p) (applied base overlay)
+applied_step name base overlay = on_result_step (λ fault. IsRefusal statuses.Refused (fault_message name fault)) (λ fault outputs report p. p) (λ fault status list p. p) (applied base overlay)
 
 -- the trees of overlays that were read, and what they made of a base
 all_read : (told : Option (List File)) (names : List (List ℕ)) (base made : Tree) → AreApplied told names base made → (overlays : List FlatTree) × GiveEach (IsTreeFile told) names overlays × (all_applied base (map (λ (overlay : FlatTree). overlay.root) overlays) ≡ Ok made)
@@ -48,20 +48,20 @@ module _ (told : Option (List File)) where
 
   module _ (asked : Asked) where
     -- what follows the base
-    abbrev pub AfterTheBase : FlatTree → Next Made → Outcome → Type 0
+    abbrev pub AfterTheBase : FlatTree → Next Overlaid → Outcome → Type 0
     AfterTheBase base next outcome = AfterOverlays told asked.overlays base.root (λ root. next (made_of base root)) outcome
 
-    abbrev FoundMade : FlatTree → Made → Type 0
-    FoundMade base made = (root : Tree) × AreApplied told asked.overlays base.root root × (made ≡ made_of base root)
+    abbrev FoundOverlaid : FlatTree → Overlaid → Type 0
+    FoundOverlaid base made = (root : Tree) × AreApplied told asked.overlays base.root root × (made ≡ made_of base root)
 
-    pub after_base_step : (base : FlatTree) → IsStep (FoundMade base) (AfterTheBase base)
+    pub after_base_step : (base : FlatTree) → IsStep (FoundOverlaid base) (AfterTheBase base)
     after_base_step base =
         and_then (AreApplied told asked.overlays base.root) (λ root made. made ≡ made_of base root) (AfterOverlays told asked.overlays base.root) (λ root. hand_on (made_of base root)) (overlays_step asked.overlays base.root) (λ root. hand_on_step (made_of base root))
 
     pub all_step : IsStep (IsFound told asked) (AfterAll told asked)
-    all_step = and_then (IsTreeFile told asked.base) FoundMade (AfterTreeFile told asked.base) AfterTheBase (tree_file_step told asked.base) after_base_step
+    all_step = and_then (IsTreeFile told asked.base) FoundOverlaid (AfterTreeFile told asked.base) AfterTheBase (tree_file_step told asked.base) after_base_step
 
-    pub is_made : (made : Made) → IsFound told asked made → IsMade told asked made
+    pub is_made : (made : Overlaid) → IsFound told asked made → IsOverlaid told asked made
     is_made made found =
         let base = found.0 in
         let later = all_read told asked.overlays base.root found.2.0 found.2.1 in
@@ -71,9 +71,9 @@ module _ (told : Option (List File)) where
           base_read = found.1;
           overlays = later.0;
           overlays_read = later.1;
-          is_applied = later.2 ∙ ap (λ (m : Made). Ok m.root) (sym same);
-          same_reserves = ap (λ (m : Made). m.reserves) same;
-          same_boot = ap (λ (m : Made). m.boot) same;
+          is_applied = later.2 ∙ ap (λ (m : Overlaid). Ok m.root) (sym same);
+          same_reserves = ap (λ (m : Overlaid). m.reserves) same;
+          same_boot = ap (λ (m : Overlaid). m.boot) same;
         }
 
 -- what reading and applying the overlays that are left does to the tree so far, all of them do to the base

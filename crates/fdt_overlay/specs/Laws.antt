@@ -1,9 +1,9 @@
--- The words and the files call for one outcome.
-use Rattle.std.specs.Prelude.{ℕ, List}
+-- What the words and the files never call for.
+use Rattle.std.specs.Prelude.{◌≡◌, ℕ, List, [], Option}
 use Rattle.outside.specs.Outside.{File}
-use Rattle.run_steps.specs.Laws.{IsDetermined}
-use Rattle.fdt_overlay.specs.Job.{IsJob}
+use Rattle.run_steps.specs.Endings.{Builds}
+use Rattle.fdt_overlay.specs.Job.{CallsFor}
 
--- no words and files call for two outcomes that differ
-abbrev pub IsOneOutcome : Type 0
-IsOneOutcome = (words : List (List ℕ)) (held : List File) → IsDetermined (IsJob words held)
+-- nothing is reported: what is built is outputs alone
+abbrev pub ReportsNothing : Type 0
+ReportsNothing = (words : List (List ℕ)) (told : Option (List File)) (outputs : List File) (report : List ℕ) → CallsFor words told (Builds outputs report) → report ≡ []

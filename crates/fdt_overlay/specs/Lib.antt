@@ -5,6 +5,7 @@ pub mod Lines
 pub mod Overlays
 pub mod PrivateMeant
 pub mod PrivateSteps
+pub mod Promises
 pub use Rattle.overlaid_trees.specs.Applied
 pub use Rattle.overlaid_trees.specs.Merge
 pub use Rattle.overlaid_trees.specs.Resolve

@@ -1,12 +1,12 @@
 -- What a run says on `err`: a message is one line behind the program's name.
-use Rattle.std.specs.Prelude.{ℕ, ◌-◌, ◌^◌, min, List, ◌++◌, codes, decimal}
-use Rattle.run_steps.specs.Messages as messages
+use Rattle.std.specs.Prelude.{ℕ, List, ◌++◌, codes}
+use Rattle.run_steps.specs.Messages.{file_message}
 use Rattle.overlaid_trees.specs.declared.fault.OverlayFault.{OverlayFault}
 use Rattle.overlaid_trees.specs.declared.fault.OverlayFault.TheVariants.{PhandleRange, BadLocal, Unresolved, BadFixup, NoTarget, Deep, Memory}
 
--- a message of this program is one line on `err`, ended by a line feed
-abbrev pub line : List ℕ → List ℕ
-line message = messages.line (codes "fdt_overlay") message
+-- the program's name
+abbrev pub program_name : List ℕ
+program_name = codes "fdt_overlay"
 
 -- a fault as it is shown: its name, and the path, label or name that it is about
 abbrev pub fault_text : OverlayFault → List ℕ
@@ -20,8 +20,4 @@ fault_text Memory = codes "out of memory"
 
 -- the overlay of this name has this fault
 abbrev pub fault_message : List ℕ → OverlayFault → List ℕ
-fault_message name fault = messages.file_message name (fault_text fault)
-
--- the tree of so many bytes is too long to be written under this name
-abbrev pub too_long_message : List ℕ → ℕ → List ℕ
-too_long_message name length = messages.file_message name (codes "TreeTooLong " ++ decimal (min length (2 ^ 64 - 1)))
+fault_message name fault = file_message name (fault_text fault)

@@ -6,7 +6,7 @@ use Rattle.fdt_tree.specs.Tree.{Tree}
 use Rattle.fdt_tree.specs.declared.reserve.Reserve.{Reserve}
 use Rattle.run_steps.specs.Endings.{Outcome}
 use Rattle.run_steps.specs.Steps.{IsRefusal, OnResult, GiveEach}
-use Rattle.run_steps.specs.Trees.{FlatTree, AfterTreeFile, IsTreeFile}
+use Rattle.tree_files.specs.Trees.{FlatTree, AfterTreeFile, IsTreeFile}
 use Rattle.overlaid_trees.specs.Applied.{applied, all_applied}
 use Rattle.fdt_overlay.specs.Lines.{fault_message}
 use Rattle.fdt_overlay.specs.Asked.{Asked}
@@ -25,21 +25,21 @@ AfterOverlays told [] base next outcome = next base outcome
 AfterOverlays told (name ∷ names) base next outcome = AfterOverlay told name base (λ made. AfterOverlays told names made next) outcome
 
 -- what is written: the tree that was made, with the base's reservations and the processor that boots
-pub record Made : Type 0 where
+pub record Overlaid : Type 0 where
   pub reserves : List Reserve
   pub boot : ℕ
   pub root : Tree
 
 -- the tree that was made of a base
-abbrev pub made_of : FlatTree → Tree → Made
+abbrev pub made_of : FlatTree → Tree → Overlaid
 made_of base root = record { reserves = base.reserves; boot = base.boot; root = root }
 
 -- the base is read, and then each overlay; what they made is handed on
-abbrev pub AfterAll : Option (List File) → Asked → (Made → Outcome → Type 0) → Outcome → Type 0
+abbrev pub AfterAll : Option (List File) → Asked → (Overlaid → Outcome → Type 0) → Outcome → Type 0
 AfterAll told asked next outcome = AfterTreeFile told asked.base (λ base. AfterOverlays told asked.overlays base.root (λ root. next (made_of base root))) outcome
 
 -- what was made is the base with the overlays applied one after the other, where all are those of the files
-pub record IsMade (told : Option (List File)) (asked : Asked) (made : Made) : Type 0 where
+pub record IsOverlaid (told : Option (List File)) (asked : Asked) (made : Overlaid) : Type 0 where
   pub base : FlatTree
   pub base_read : IsTreeFile told asked.base base
   pub overlays : List FlatTree

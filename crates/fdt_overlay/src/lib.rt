@@ -2,6 +2,7 @@
 //! `overlaid_trees`, and found here too.
 #![tactic(auto)]
 
+mod applier;
 pub mod laws;
 mod lines;
 mod no_report;
@@ -9,5 +10,6 @@ mod prepare;
 mod top;
 mod words;
 
+pub use applier::FdtOverlay;
 pub use overlaid_trees::{OverlayFault, apply};
 pub use top::run;

@@ -1,6 +1,6 @@
 // Messages.
-ghost use Rattle.std.specs.Prelude.{◌≡◌, ◌-◌, ◌^◌, ◌++◌, min, IfOk, OnOk};
-ghost use Rattle.fdt_overlay.specs.Lines.{fault_text, fault_message, too_long_message};
+ghost use Rattle.std.specs.Prelude.{◌≡◌, ◌++◌, IfOk, OnOk};
+ghost use Rattle.fdt_overlay.specs.Lines.{fault_text, fault_message};
 
 use overlaid_trees::OverlayFault;
 use run_steps::make_file_message;
@@ -41,20 +41,4 @@ pub(crate) fn make_fault_message(
     let mut text = Bytes::new(alloc);
     append_fault(&mut text, fault)?;
     make_file_message(alloc, name, text.as_slice())
-}
-
-/// What is said about a tree of so many bytes, or of more where the number is the greatest, that is too long to be written
-/// under a name.
-pub(crate) fn make_too_long_message(
-    alloc: Global,
-    name: &str,
-    bytes: u64,
-) -> Result<Bytes, AllocError>
-    ensures { IfOk result (λ message. (length : _) → bytes ≡ min length (2 ^ 64 - 1) → message ≡ too_long_message name.now length) }
-{
-    let mut text = Bytes::new(alloc);
-    text.append(b"TreeTooLong ")?;
-    text.append_decimal(alloc, bytes)?;
-    let message = make_file_message(alloc, name, text.as_slice())?;
-    Ok(message)
 }

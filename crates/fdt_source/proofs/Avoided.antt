@@ -4,9 +4,10 @@ use Rattle.std.specs.Prelude.{Option, Some, None}
 use Rattle.outside.specs.Outside.{File}
 use Rattle.outside.specs.declared.status.Status.TheVariants as statuses
 use Rattle.run_steps.specs.Endings.{Refuses}
-use Rattle.run_steps.specs.Trees.{FlatTree}
-use Rattle.run_steps.proofs.ReadingSteps.{tree_file_step}
-use Rattle.run_steps.proofs.Avoided.{IsOfNoFile, tree_avoids}
+use Rattle.tree_files.specs.Trees.{FlatTree}
+use Rattle.tree_files.proofs.TreeSteps.{tree_file_step}
+use Rattle.run_steps.proofs.Avoided.{IsOfNoFile}
+use Rattle.tree_files.proofs.TreeSteps.{tree_avoids}
 use Rattle.source_text.specs.BadNames.{first_bad}
 use Rattle.fdt_source.specs.Texts.{SourceTree}
 use Rattle.fdt_source.specs.Words.{Asked, Print, Build}

@@ -1,5 +1,6 @@
 pub mod TextSteps
 pub mod OneOutcome
 pub mod Avoided
-pub mod Exact
+pub mod Never
 pub mod Shown
+pub mod Promised

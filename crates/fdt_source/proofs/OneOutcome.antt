@@ -1,14 +1,17 @@
 -- The words and files that tell what they hold call for one outcome.
 use Rattle.std.proofs.Common.{◌≤◌, ◌<◌, ℕ, List, Option, Some, None, inl, inr, arith}
+use Rattle.std.specs.Prelude.{IsNone}
 use Rattle.outside.specs.Outside.{File}
+use Rattle.run_steps.specs.Endings.{Outcome}
 use Rattle.run_steps.specs.Laws.{IsDetermined}
-use Rattle.run_steps.specs.Trees.{FlatTree}
-use Rattle.run_steps.proofs.OneOutcome.{refusals_agree, writings_agree, tree_file_decides}
+use Rattle.tree_files.specs.Trees.{FlatTree}
+use Rattle.run_steps.proofs.OneOutcome.{never_agrees, refusals_agree, writings_agree}
+use Rattle.tree_files.proofs.TreeSteps.{tree_file_decides}
+use Rattle.program.specs.Laws.{IsOneOutcome, AsksNothing}
 use Rattle.source_text.specs.BadNames.{first_bad}
 use Rattle.fdt_source.specs.Texts.{SourceTree}
 use Rattle.fdt_source.specs.Words.{Asked, Print, Build, asked}
-use Rattle.fdt_source.specs.Job.{OnBadName, IsPrinting, IsBuilding, IsAskedJob, IsWordsJob}
-use Rattle.fdt_source.specs.Laws.{IsOneOutcome}
+use Rattle.fdt_source.specs.Job.{OnBadName, IsPrinting, IsBuilding, IsAskedJob, AreRefused, IsWordsJob, CallsFor}
 use Rattle.fdt_source.proofs.TextSteps.{text_file_decides}
 
 bad_name_agrees : (name : List ℕ) (tree : FlatTree) (found : Option (List ℕ)) → IsDetermined (OnBadName name tree found)
@@ -32,9 +35,20 @@ job_agrees held (Print name) = tree_file_decides held name (IsPrinting name) (pr
 job_agrees held (Build text out) = text_file_decides held text (IsBuilding out) (building_agrees out)
 
 words_agree : (held : List File) (asked : Option Asked) → IsDetermined (IsWordsJob (Some held) asked)
-words_agree held None = refusals_agree _ _
+words_agree held None = never_agrees
 words_agree held (Some asked) = job_agrees held asked
 
 -- no words and files call for two outcomes that differ
-pub one_outcome : IsOneOutcome
+pub one_outcome : IsOneOutcome CallsFor
 one_outcome words held = words_agree held (asked words)
+
+never_none : (asked : Asked) → IsNone (Some asked) → ⊥
+never_none asked none = cc
+
+none_job : (told : Option (List File)) (asked : Option Asked) (outcome : Outcome) → IsNone asked → IsWordsJob told asked outcome → ⊥
+none_job told None outcome none job = job
+none_job told (Some asked) outcome none job = absurd (never_none asked none)
+
+-- words that are refused call for nothing
+pub asks_nothing : AsksNothing AreRefused CallsFor
+asks_nothing words text told outcome refused job = none_job told (asked words) outcome refused.0 job

@@ -1,10 +1,10 @@
 -- What a run that ends with status 0 has printed or written.
-use Rattle.std.proofs.Common.{◌≡◌, subst, refl, ℕ, List, [], ◌∷◌, Option, Some, None, inl, inr}
+use Rattle.std.proofs.Common.{◌≡◌, refl, ℕ, List, [], ◌∷◌, Option, Some, None, inl, inr}
 use Rattle.outside.specs.Outside.{File}
 use Rattle.run_steps.specs.Endings.{Builds}
-use Rattle.run_steps.specs.Trees.{FlatTree, AfterTreeFile, IsTreeFile}
+use Rattle.tree_files.specs.Trees.{FlatTree, AfterTreeFile, IsTreeFile}
 use Rattle.run_steps.proofs.Step.{found_by}
-use Rattle.run_steps.proofs.ReadingSteps.{tree_file_step}
+use Rattle.tree_files.proofs.TreeSteps.{tree_file_step}
 use Rattle.source_text.specs.BadNames.{first_bad}
 use Rattle.source_text.specs.Printed.{printed}
 use Rattle.fdt_source.specs.Texts.{SourceTree, AfterTextFile, IsTextFile}

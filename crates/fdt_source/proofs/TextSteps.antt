@@ -6,7 +6,7 @@ use Rattle.outside.specs.declared.status.Status.{Status}
 use Rattle.outside.specs.declared.status.Status.TheVariants as statuses
 use Rattle.fdt_tree.specs.Tree.{Bytes, Tree}
 use Rattle.fdt_tree.specs.declared.reserve.Reserve.{Reserve}
-use Rattle.run_steps.specs.Endings.{Outcome, Builds}
+use Rattle.run_steps.specs.Endings.{Outcome, Builds, Finds}
 use Rattle.run_steps.specs.Steps.{IsRefusal, IsReading, AfterReading, nothing}
 use Rattle.run_steps.proofs.Step.{Next, IsStep, Avoids, and_then, said_as, both_avoid}
 use Rattle.run_steps.proofs.ReadingSteps.{reading_step}
@@ -34,12 +34,17 @@ text_refuses : (name bytes : Bytes) (outputs : List File) (report : List ℕ) �
 text_refuses name bytes outputs report (inl refused) = refused.2
 text_refuses name bytes outputs report (inr says) = says.2
 
+text_finds : (name bytes : Bytes) (status : Status) (list : List ℕ) → AfterText name bytes nothing (Finds status list) → ⊥
+text_finds name bytes status list (inl refused) = refused.2
+text_finds name bytes status list (inr says) = says.2
+
 pub text_step : (name bytes : Bytes) → IsStep (Says bytes) (AfterText name bytes)
 text_step name bytes = record {
   splits = text_splits name bytes;
   gives = λ tree is next outcome p. inr (tree, is, p);
   stays = text_stays name bytes;
   refuses = text_refuses name bytes;
+  finds = text_finds name bytes;
 }
 
 pub text_file_step : (told : Option (List File)) (name : Bytes) → IsStep (IsTextFile told name) (AfterTextFile told name)

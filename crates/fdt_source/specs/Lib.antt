@@ -1,7 +1,7 @@
 pub mod Job
-pub mod Laws
 pub mod Messages
 pub mod PrivateMeant
+pub mod Promises
 pub mod Texts
 pub mod Words
 pub use Rattle.source_text.specs.BadNames

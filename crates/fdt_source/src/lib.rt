@@ -7,8 +7,10 @@ mod messages;
 mod prepare;
 mod text_building;
 mod top;
+mod translator;
 mod tree_printing;
 mod words;
 
 pub use source_text::{PrintFault, Source, SourceFault, print_source, read_source};
 pub use top::run;
+pub use translator::FdtSource;

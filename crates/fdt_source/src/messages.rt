@@ -1,6 +1,6 @@
 // What is said about files.
-ghost use Rattle.std.specs.Prelude.{◌≡◌, ◌-◌, ◌^◌, min, IfOk};
-ghost use Rattle.fdt_source.specs.Messages.{bad_name_message, syntax_message, too_long_message};
+ghost use Rattle.std.specs.Prelude.{◌≡◌, IfOk};
+ghost use Rattle.fdt_source.specs.Messages.{bad_name_message, syntax_message};
 
 use run_steps::make_file_message;
 use std::alloc::{AllocError, Global};
@@ -32,22 +32,6 @@ pub(crate) fn make_syntax_message(
     let mut text = Bytes::new(alloc);
     text.append(b"Syntax at ")?;
     text.append_decimal(alloc, offset)?;
-    let message = make_file_message(alloc, name, text.as_slice())?;
-    Ok(message)
-}
-
-/// What is said about a tree of so many bytes, or of more where the number is the greatest, that is too long to be written
-/// under a name.
-pub(crate) fn make_too_long_message(
-    alloc: Global,
-    name: &str,
-    bytes: u64,
-) -> Result<Bytes, AllocError>
-    ensures { IfOk result (λ message. (length : _) → bytes ≡ min length (2 ^ 64 - 1) → message ≡ too_long_message name.now length) }
-{
-    let mut text = Bytes::new(alloc);
-    text.append(b"TreeTooLong ")?;
-    text.append_decimal(alloc, bytes)?;
     let message = make_file_message(alloc, name, text.as_slice())?;
     Ok(message)
 }

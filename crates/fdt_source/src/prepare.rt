@@ -1,7 +1,7 @@
 // What a run makes before its first write.
 ghost use Rattle.std.specs.Prelude.{◌≡◌, IfOk, IfErr};
 ghost use Rattle.run_steps.specs.PrivateOutcomes.{outcome_of};
-ghost use Rattle.run_steps.specs.Stops.{IsDue};
+ghost use Rattle.run_steps.specs.Stops.{StopsFor};
 ghost use Rattle.fdt_source.specs.Job.{IsAskedJob};
 ghost use Rattle.fdt_source.specs.PrivateMeant.{meant};
 
@@ -19,7 +19,7 @@ pub(crate) fn prepare<F: Files>(
     files: &mut F,
 ) -> Result<Build, Stop>
     ensures built { IfOk result (λ build. IsAskedJob (F.held files.old) (meant asked.now) (outcome_of build)) }
-    ensures stopped { IfErr result (λ stop. IsDue (IsAskedJob (F.held files.old) (meant asked.now)) (F.faults files.old, F.absents files.old, F.overlong files.old) (F.faults files.new, F.absents files.new, F.overlong files.new) stop) }
+    ensures stopped { IfErr result (StopsFor F.counts files.old files.new (IsAskedJob (F.held files.old) (meant asked.now))) }
     ensures kept { F.held files.new ≡ F.held files.old }
 {
     match *asked {

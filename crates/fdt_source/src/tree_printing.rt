@@ -3,16 +3,17 @@ ghost use Rattle.std.specs.Prelude.{◌≡◌, IfOk, IfErr, IsTrue, not};
 ghost use Rattle.std.specs.List.{list_all};
 ghost use Rattle.fdt_read.specs.Reservations.{is_last_pair};
 ghost use Rattle.run_steps.specs.PrivateOutcomes.{outcome_of};
-ghost use Rattle.run_steps.specs.Stops.{IsDue, IsOwnDue};
-ghost use Rattle.run_steps.specs.Trees.{flat_tree, AfterTreeFile};
+ghost use Rattle.run_steps.specs.Stops.{StopsFor, IsOwnDue};
+ghost use Rattle.tree_files.specs.Trees.{flat_tree, AfterTreeFile};
 ghost use Rattle.fdt_source.specs.Job.{IsPrinting};
 
 use crate::messages::make_bad_name_message;
 use outside::{Files, Status};
-use run_steps::{Build, Stop, TreeFile, read_tree};
+use run_steps::{Build, Stop};
 use source_text::{PrintFault, print_source};
 use std::alloc::Global;
 use texts::{Bytes, List};
+use tree_files::{TreeFile, read_tree};
 
 /// The text of a tree of this name, which is put on standard output.
 fn print_tree(alloc: Global, name: &str, tree: &TreeFile) -> Result<Build, Stop>
@@ -36,7 +37,7 @@ fn print_tree(alloc: Global, name: &str, tree: &TreeFile) -> Result<Build, Stop>
 /// Reads the tree of this name, and makes its text.
 pub(crate) fn print_file<F: Files>(alloc: Global, name: &str, files: &mut F) -> Result<Build, Stop>
     ensures built { IfOk result (λ build. AfterTreeFile (F.held files.old) name.now (IsPrinting name.now) (outcome_of build)) }
-    ensures stopped { IfErr result (λ stop. IsDue (AfterTreeFile (F.held files.old) name.now (IsPrinting name.now)) (F.faults files.old, F.absents files.old, F.overlong files.old) (F.faults files.new, F.absents files.new, F.overlong files.new) stop) }
+    ensures stopped { IfErr result (StopsFor F.counts files.old files.new (AfterTreeFile (F.held files.old) name.now (IsPrinting name.now))) }
     ensures kept { F.held files.new ≡ F.held files.old }
 {
     let tree = read_tree(alloc, name, files)?;

@@ -1,46 +1,30 @@
-use Rattle.std.proofs.Common.{rules, ◌≡◌, ◌∙◌, ap, subst, List, Err, length}
-use Rattle.std.specs.Prelude.{Option}
-use Rattle.outside.specs.Outside.{File}
+use Rattle.std.proofs.Common.{rules, ◌≡◌, Err}
 use Rattle.std.specs.Option.{option_copied}
 use Rattle.run_steps.specs.Steps.{nothing}
-use Rattle.tree_files.specs.Trees.{flat_tree, AfterTreeFile}
-use Rattle.run_steps.proofs.Due.{due_later, due_anyway, grew_twice}
-use Rattle.build_sources.specs.Configs.{AfterFileSizes, AfterScript, host_file}
-use Rattle.build_sources.proofs.ConfigSteps.{AreFileSizes, as_many_sizes, refused_tree, refused_sizes, refused_script}
+use Rattle.run_steps.proofs.Due.{due_here, due_later}
+use Rattle.build_sources.specs.PrivateMaking.{AfterSetup, AfterScripted, meant_setup, meant_scripted}
+use Rattle.build_sources.proofs.ConfigSteps.{made_of_both, refused_setup, refused_rest}
 use Rattle.build_sources.proofs.configuration.make_script.Goals as goal
 
-pub returns-in_err-tree-clause-stopped : goal.returns-in_err-tree-clause-stopped
-returns-in_err-tree-clause-stopped g c =
-    let handed : c.from_residual-in_err-tree.result ≡ Err (c.in_err-tree.field-0.0) = search rules in
+pub returns-in_err-setup-clause-stopped : goal.returns-in_err-setup-clause-stopped
+returns-in_err-setup-clause-stopped g c =
+    let told = g.F.Files.held c.args.files.now in
+    let folder = option_copied c.args.folder in
+    let handed : c.from_residual.result ≡ Err (c.in_err-setup.field-0.0) = search rules in
     rw handed
-    (due_later (AfterTreeFile (g.F.Files.held c.args.files.now) (host_file (option_copied c.args.folder) c.in_ok-config.config) nothing) _
-    (refused_tree (g.F.Files.held c.args.files.now) c.args.name.now (option_copied c.args.folder) c.args.kind c.in_ok-config.config c.in_ok-config.ensures.read)
-    _ _ _ c.in_ok-config.ensures.only_read.counted (c.in_err-tree.field-0.0) (rw (c.in_ok-config.ensures.only_read.held_kept, c.as_str.ensures, c.in_ok-host.ensures) at c.in_err-tree.ensures.stopped))
+    (due_here (AfterSetup told c.args.name.now folder nothing) _ (refused_setup told c.args.name.now folder c.args.kind) _ _ (c.in_err-setup.field-0.0) c.in_err-setup.ensures.stopped)
 
-pub returns-in_err-sizes-clause-stopped : goal.returns-in_err-sizes-clause-stopped
-returns-in_err-sizes-clause-stopped g c =
-    let handed : c.from_residual-in_err-sizes.result ≡ Err (c.in_err-sizes.field-0.0) = search (rules, c.from_residual-in_err-sizes.ensures) in
+pub returns-in_err-scripted-clause-stopped : goal.returns-in_err-scripted-clause-stopped
+returns-in_err-scripted-clause-stopped g c =
+    let told = g.F.Files.held c.args.files.now in
+    let folder = option_copied c.args.folder in
+    let setup = meant_setup c.in_ok-setup.setup in
+    let handed : c.from_residual-in_err-scripted.result ≡ Err (c.in_err-scripted.field-0.0) = search (rules, c.from_residual-in_err-scripted.ensures) in
     rw handed
-    (due_later (AfterFileSizes (g.F.Files.held c.args.files.now) (option_copied c.args.folder) c.in_ok-config.config (flat_tree c.in_ok-tree.tree) nothing) _
-    (λ outcome.
-    refused_sizes (g.F.Files.held c.args.files.now) c.args.name.now (option_copied c.args.folder) c.args.kind c.in_ok-config.config c.in_ok-config.ensures.read outcome
-    (flat_tree c.in_ok-tree.tree) (rw (c.in_ok-config.ensures.only_read.held_kept, c.as_str.ensures, c.in_ok-host.ensures) at c.in_ok-tree.ensures.read))
-    _ _ _ (grew_twice _ _ _ c.in_ok-config.ensures.only_read.counted c.in_ok-tree.ensures.only_read.counted) (c.in_err-sizes.field-0.0) (rw (c.in_ok-tree.ensures.only_read.held_kept, c.in_ok-config.ensures.only_read.held_kept) at c.in_err-sizes.ensures.stopped))
+    (due_later (AfterScripted told folder c.args.kind setup nothing) _ (λ outcome. refused_rest told c.args.name.now folder c.args.kind outcome setup c.in_ok-setup.ensures.read)
+    _ _ _ c.in_ok-setup.ensures.only_read.counted (c.in_err-scripted.field-0.0) (rw c.in_ok-setup.ensures.only_read.held_kept at c.in_err-scripted.ensures.stopped))
 
-pub script_of_sizes-requires : goal.script_of_sizes-requires
-script_of_sizes-requires g c =
-    ap length c.deref.ensures.value
-    ∙ as_many_sizes (g.F.Files.held c.read_tree.new.files) (option_copied c.args.folder) c.in_ok-config.config (flat_tree c.in_ok-tree.tree) c.in_ok-sizes.sizes.items c.in_ok-sizes.ensures.measured
-
-pub returns-in_err-script-clause-stopped : goal.returns-in_err-script-clause-stopped
-returns-in_err-script-clause-stopped g c =
-    let handed : c.from_residual-in_err-script.result ≡ Err (c.in_err-script.field-0.0) = search (rules, c.from_residual-in_err-script.ensures) in
-    rw handed
-    (due_anyway (AfterScript (option_copied c.args.folder) c.args.kind c.in_ok-config.config (flat_tree c.in_ok-tree.tree) c.in_ok-sizes.sizes.items nothing) _
-    (λ outcome.
-    refused_script (g.F.Files.held c.args.files.now) c.args.name.now (option_copied c.args.folder) c.args.kind c.in_ok-config.config c.in_ok-config.ensures.read outcome
-    (flat_tree c.in_ok-tree.tree) (rw (c.in_ok-config.ensures.only_read.held_kept, c.as_str.ensures, c.in_ok-host.ensures) at c.in_ok-tree.ensures.read)
-    c.in_ok-sizes.sizes.items
-    (subst (λ (told : Option (List File)). AreFileSizes told (option_copied c.args.folder) c.in_ok-config.config (flat_tree c.in_ok-tree.tree) c.in_ok-sizes.sizes.items)
-    (c.in_ok-tree.ensures.only_read.held_kept ∙ c.in_ok-config.ensures.only_read.held_kept) c.in_ok-sizes.ensures.measured))
-    _ _ (c.in_err-script.field-0.0) (rw (c.as_str-2.ensures, c.in_ok-host.ensures, c.deref.ensures.value) at c.in_err-script.ensures.stopped))
+pub returns-clause-made : goal.returns-clause-made
+returns-clause-made g c =
+    made_of_both (g.F.Files.held c.args.files.now) c.args.name.now (option_copied c.args.folder) c.args.kind (meant_setup c.in_ok-setup.setup) (meant_scripted c.in_ok-scripted.scripted)
+    c.in_ok-setup.ensures.read (rw c.in_ok-setup.ensures.only_read.held_kept at c.in_ok-scripted.ensures.made)

@@ -1,8 +1,8 @@
 use Rattle.std.proofs.Common.{rules, ◌≡◌, Err}
 use Rattle.run_steps.specs.Steps.{nothing}
-use Rattle.run_steps.specs.Trees.{flat_tree, AfterTreeFile}
+use Rattle.tree_files.specs.Trees.{flat_tree, AfterTreeFile}
 use Rattle.run_steps.proofs.Due.{due_here, stopped_anyway}
-use Rattle.run_steps.proofs.ReadingSteps.{tree_file_step}
+use Rattle.tree_files.proofs.TreeSteps.{tree_file_step}
 use Rattle.fdt_overlay.specs.Overlays.{AfterApplied}
 use Rattle.fdt_overlay.proofs.prepare.apply_file.Goals as goal
 

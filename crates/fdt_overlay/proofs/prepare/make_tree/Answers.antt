@@ -1,8 +1,8 @@
 use Rattle.std.proofs.Common.{rules, ◌≡◌, refl, Err}
 use Rattle.run_steps.specs.Steps.{nothing}
-use Rattle.run_steps.specs.Trees.{flat_tree, AfterTreeFile}
+use Rattle.tree_files.specs.Trees.{flat_tree, AfterTreeFile}
 use Rattle.run_steps.proofs.Due.{due_here, due_later}
-use Rattle.run_steps.proofs.ReadingSteps.{tree_file_step}
+use Rattle.tree_files.proofs.TreeSteps.{tree_file_step}
 use Rattle.fdt_overlay.specs.PrivateMeant.{meant}
 use Rattle.fdt_overlay.specs.Overlays.{AfterOverlays, made_of}
 use Rattle.fdt_overlay.proofs.OverlaySteps.{AfterTheBase, overlays_step}
@@ -25,8 +25,8 @@ returns-in_err-tree-clause-stopped g c =
     rw handed
     (due_later (AfterOverlays told asked.overlays base.root nothing) _
     (λ outcome refused. (tree_file_step told asked.base).gives base c.in_ok-base.ensures.read (λ base. AfterTheBase told asked base nothing) outcome ((overlays_step told asked.overlays base.root).stays (λ root. nothing (made_of base root)) outcome refused))
-    _ _ _ c.in_ok-base.ensures.grew (c.in_err-tree.field-0.0) (rw (c.in_ok-base.ensures.kept) at c.in_err-tree.ensures.stopped))
+    _ _ _ c.in_ok-base.ensures.only_read.counted (c.in_err-tree.field-0.0) (rw (c.in_ok-base.ensures.only_read.held_kept) at c.in_err-tree.ensures.stopped))
 
 pub returns-clause-made : goal.returns-clause-made
 returns-clause-made g c =
-    (flat_tree c.in_ok-base.base, c.in_ok-base.ensures.read, (c.in_ok-tree.tree.tree, rw (c.in_ok-base.ensures.kept) at c.in_ok-tree.ensures.applied, refl))
+    (flat_tree c.in_ok-base.base, c.in_ok-base.ensures.read, (c.in_ok-tree.tree.tree, rw (c.in_ok-base.ensures.only_read.held_kept) at c.in_ok-tree.ensures.applied, refl))

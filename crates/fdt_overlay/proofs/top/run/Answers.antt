@@ -1,108 +1,55 @@
-use Rattle.std.proofs.Common.{◌∙◌, ap, subst, map, string_bytes, inl, inr}
-use Rattle.std.specs.Prelude.{Option}
-use Rattle.run_steps.specs.Endings.{Refuses, Builds, and_files}
-use Rattle.fdt_overlay.specs.Job.{IsAskedJob, IsWordsJob}
-use Rattle.fdt_overlay.specs.PrivateMeant.{meant}
-use Rattle.run_steps.specs.Outputs.{files_of, report_of}
-use Rattle.run_steps.proofs.Taken.{built_or_not}
-use Rattle.fdt_overlay.specs.Asked.{Asked}
-use Rattle.fdt_overlay.proofs.Exact.{words_call, exact_build, exact_stopped, cause_of, refused_for, format_for, longer_for, read_for, differs_for}
-use Rattle.fdt_overlay.proofs.Avoided.{job_avoids}
-use Rattle.fdt_overlay.proofs.Written.{written, no_report, no_bytes, failed_output}
+use Rattle.std.proofs.Common.{subst, refl, inl, inr, map, string_bytes}
+use Rattle.outside.specs.declared.status.Status.{Status}
+use Rattle.run_steps.specs.Endings.{Refuses}
+use Rattle.run_steps.proofs.Due.{never_rises}
+use Rattle.program.specs.Programs.{usage_line}
+use Rattle.fdt_overlay.specs.Job.{AreRefused, CallsFor}
+use Rattle.fdt_overlay.specs.Lines.{program_name}
+use Rattle.fdt_overlay.specs.Promises.{IsPromised}
+use Rattle.fdt_overlay.proofs.Quiet.{no_bytes, over_any}
 use Rattle.fdt_overlay.proofs.top.run.Goals as goal
 
-pub returns-in-Ok-clause-headline : goal.returns-in-Ok-clause-headline
-returns-in-Ok-clause-headline g c = λ names named is_built.
+pub returns-clause-words : goal.returns-clause-words
+returns-clause-words g c = (
+  λ is. let said = c.run.ensures.ran.words is in said.2.0,
+  λ none. elim (c.run.ensures.ran.unasked (usage_line program_name) (none, refl)) [
+    | inl is ↦ is
+    | inr memory ↦ elim memory.0 [ ]
+  ],
+)
+
+pub returns-clause-write : goal.returns-clause-write
+returns-clause-write g c = λ is. elim (c.run.ensures.ran.write is) [
+  | inl build ↦ elim build.5 [
+    | inl output ↦ (build.0, build.1, build.2, build.3, build.4, output.0, output.1)
+    | inr report ↦ absurd (never_rises report.1)
+  ]
+  | inr list ↦ absurd (never_rises list.4)
+]
+
+pub returns-clause-room : goal.returns-clause-room
+returns-clause-room g c = λ is.
+    let words = map string_bytes c.args.words.now in
     let told = g.F.Files.held c.args.files.now in
-    let outcome = Builds (files_of c.in-Ok.build) (report_of c.in-Ok.build) in
-    let calls = words_call (map string_bytes c.args.words.now) told (meant c.in-Some.asked) outcome c.in-Some.ensures c.in-Ok.ensures.built in
-    let taken = c.write_all.ensures.built is_built in
-    let one = written told names (files_of c.in-Ok.build) (report_of c.in-Ok.build) (subst (λ (read : Option Asked). IsWordsJob told read outcome) named calls) in
-    (one.0, one.1, taken.0 ∙ ap (and_files _) one.2)
+    elim (c.run.ensures.ran.room is) [
+      | inl build ↦ (build.0, build.1, build.2, λ room. build.3 (room, no_bytes build.1 (c.reports_nothing.ensures words told build.0 build.1 build.2)))
+      | inr list ↦ absurd (c.finds_nothing.ensures words told list.0 list.1 list.2)
+    ]
 
-pub returns-in-Ok-clause-built : goal.returns-in-Ok-clause-built
-returns-in-Ok-clause-built g c = λ is_built.
-    let taken = c.write_all.ensures.built is_built in
-    let outcome = Builds (files_of c.in-Ok.build) (report_of c.in-Ok.build) in (
-      files_of c.in-Ok.build,
-      report_of c.in-Ok.build,
-      words_call (map string_bytes c.args.words.now) (g.F.Files.held c.args.files.now) (meant c.in-Some.asked) outcome c.in-Some.ensures c.in-Ok.ensures.built,
-      taken.0,
-      taken.2,
-    )
-
-pub returns-in-Ok-clause-write : goal.returns-in-Ok-clause-write
-returns-in-Ok-clause-write g c = λ failed.
-    let cut = c.write_all.ensures.write failed in
-    let outcome = Builds (files_of c.in-Ok.build) (report_of c.in-Ok.build) in
-    let found = failed_output cut.2 in (
-      files_of c.in-Ok.build,
-      report_of c.in-Ok.build,
-      cut.0,
-      words_call (map string_bytes c.args.words.now) (g.F.Files.held c.args.files.now) (meant c.in-Some.asked) outcome c.in-Some.ensures c.in-Ok.ensures.built,
-      cut.1,
-      found.0,
-      found.1,
-    )
-
-pub returns-in-Ok-clause-exact : goal.returns-in-Ok-clause-exact
-returns-in-Ok-clause-exact g c =
-    let outcome = Builds (files_of c.in-Ok.build) (report_of c.in-Ok.build) in
-    exact_build (map string_bytes c.args.words.now) (g.F.Files.held c.args.files.now) _ (files_of c.in-Ok.build) (report_of c.in-Ok.build) _
-    (words_call (map string_bytes c.args.words.now) (g.F.Files.held c.args.files.now) (meant c.in-Some.asked) outcome c.in-Some.ensures c.in-Ok.ensures.built) c.write_all.ensures.only
-
-pub returns-in-Err-Because-clause-exact : goal.returns-in-Err-Because-clause-exact
-returns-in-Err-Because-clause-exact g c =
-    exact_stopped (map string_bytes c.args.words.now) (g.F.Files.held c.args.files.now) (meant c.in-Some.asked) c.in-Some.ensures _ _ c.prepare.result c.in-Err-Because.field-0 c.in-Err-Because.status c.in-Err-Because.message
-    c.prepare.ensures.stopped c.in-Err-Because.is c.in-Err-Because.field-0-is
-
-pub returns-in-Err-Because-clause-refused : goal.returns-in-Err-Because-clause-refused
-returns-in-Err-Because-clause-refused g c = λ is.
+pub returns-clause-no_audit : goal.returns-clause-no_audit
+returns-clause-no_audit g c = λ is.
+    let words = map string_bytes c.args.words.now in
     let told = g.F.Files.held c.args.files.now in
-    let job = IsAskedJob told (meant c.in-Some.asked) in
-    let cause = cause_of job _ _ c.prepare.result c.in-Err-Because.field-0 c.in-Err-Because.status c.in-Err-Because.message c.prepare.ensures.stopped c.in-Err-Because.is c.in-Err-Because.field-0-is in
-    let refuses = Refuses c.in-Err-Because.status c.in-Err-Because.message in
-    (c.in-Err-Because.message, rw (c.as_slice.ensures) at c.say-in-Err-Because.ensures, words_call (map string_bytes c.args.words.now) told (meant c.in-Some.asked) refuses c.in-Some.ensures (refused_for job _ _ _ _ cause is))
+    elim (c.run.ensures.ran.found (inr (inr is))) [
+      | inl said ↦ c.audits_nothing.ensures words told said.0 (subst (λ (s : Status). CallsFor words told (Refuses s said.0)) is said.2)
+      | inr put ↦ c.finds_nothing.ensures words told _ put.0 put.1
+    ]
 
-pub returns-in-Err-Because-clause-format : goal.returns-in-Err-Because-clause-format
-returns-in-Err-Because-clause-format g c = λ is.
+pub returns-clause-ran : goal.returns-clause-ran
+returns-clause-ran g c =
+    let words = map string_bytes c.args.words.now in
     let told = g.F.Files.held c.args.files.now in
-    let job = IsAskedJob told (meant c.in-Some.asked) in
-    let cause = cause_of job _ _ c.prepare.result c.in-Err-Because.field-0 c.in-Err-Because.status c.in-Err-Because.message c.prepare.ensures.stopped c.in-Err-Because.is c.in-Err-Because.field-0-is in
-    let refuses = Refuses c.in-Err-Because.status c.in-Err-Because.message in
-    (c.in-Err-Because.message, rw (c.as_slice.ensures) at c.say-in-Err-Because.ensures, words_call (map string_bytes c.args.words.now) told (meant c.in-Some.asked) refuses c.in-Some.ensures (format_for job _ _ _ _ cause is))
-
-pub returns-in-Err-Because-clause-longer : goal.returns-in-Err-Because-clause-longer
-returns-in-Err-Because-clause-longer g c = λ is.
-    let told = g.F.Files.held c.args.files.now in
-    let job = IsAskedJob told (meant c.in-Some.asked) in
-    let cause = cause_of job _ _ c.prepare.result c.in-Err-Because.field-0 c.in-Err-Because.status c.in-Err-Because.message c.prepare.ensures.stopped c.in-Err-Because.is c.in-Err-Because.field-0-is in
-    let refuses = Refuses c.in-Err-Because.status c.in-Err-Because.message in
-    let longer = longer_for job _ _ _ _ cause is in
-    (c.in-Err-Because.message, rw (c.as_slice.ensures) at c.say-in-Err-Because.ensures, longer.0, words_call (map string_bytes c.args.words.now) told (meant c.in-Some.asked) refuses c.in-Some.ensures longer.1)
-
-pub returns-in-Err-Because-clause-read : goal.returns-in-Err-Because-clause-read
-returns-in-Err-Because-clause-read g c = λ is.
-    let told = g.F.Files.held c.args.files.now in
-    let job = IsAskedJob told (meant c.in-Some.asked) in
-    let cause = cause_of job _ _ c.prepare.result c.in-Err-Because.field-0 c.in-Err-Because.status c.in-Err-Because.message c.prepare.ensures.stopped c.in-Err-Because.is c.in-Err-Because.field-0-is in
-    let refuses = Refuses c.in-Err-Because.status c.in-Err-Because.message in
-    (c.in-Err-Because.message, rw (c.as_slice.ensures) at c.say-in-Err-Because.ensures, elim (read_for job _ _ _ _ cause is) [ inl failed ↦ inl failed | inr absent ↦ inr (absent.0, words_call (map string_bytes c.args.words.now) told (meant c.in-Some.asked) refuses c.in-Some.ensures absent.1) ])
-
-pub returns-in-Err-Because-clause-no_audit : goal.returns-in-Err-Because-clause-no_audit
-returns-in-Err-Because-clause-no_audit g c = λ is.
-    let told = g.F.Files.held c.args.files.now in
-    let job = IsAskedJob told (meant c.in-Some.asked) in
-    let cause = cause_of job _ _ c.prepare.result c.in-Err-Because.field-0 c.in-Err-Because.status c.in-Err-Because.message c.prepare.ensures.stopped c.in-Err-Because.is c.in-Err-Because.field-0-is in
-    job_avoids told (meant c.in-Some.asked) c.in-Err-Because.message (differs_for job _ _ _ _ cause is)
-
-pub returns-in-Ok-clause-room : goal.returns-in-Ok-clause-room
-returns-in-Ok-clause-room g c = λ failed.
-    let told = g.F.Files.held c.args.files.now in
-    let outcome = Builds (files_of c.in-Ok.build) (report_of c.in-Ok.build) in
-    let unsaid = no_report told (meant c.in-Some.asked) (files_of c.in-Ok.build) (report_of c.in-Ok.build) c.in-Ok.ensures.built in (
-      files_of c.in-Ok.build,
-      report_of c.in-Ok.build,
-      words_call (map string_bytes c.args.words.now) told (meant c.in-Some.asked) outcome c.in-Some.ensures c.in-Ok.ensures.built,
-      λ room. built_or_not c.write_all.result (c.write_all.ensures.room (room, no_bytes _ unsaid)) failed,
-    )
+    over_any g.F.Files.held g.F.Files.counts g.O.Outs.written g.O.Outs.room g.O.Outs.faults g.S.Sink.taken g.S.Sink.room g.S.Sink.faults g.E.Sink.taken g.E.Sink.faults
+    program_name (AreRefused words) (⊥) (CallsFor words told) (IsPromised words told)
+    (c.reports_nothing.ensures words told) (c.finds_nothing.ensures words told)
+    _ _ _ _ _ _ _ _ _ _ c.run.ensures.ran

@@ -1,9 +1,9 @@
 use Rattle.std.proofs.Common.{rules, ◌≡◌, Err}
 use Rattle.fdt_read.proofs.NoLastPair.{no_last_pairs}
 use Rattle.run_steps.specs.Steps.{nothing}
-use Rattle.run_steps.specs.Trees.{flat_tree, AfterTreeFile}
+use Rattle.tree_files.specs.Trees.{flat_tree, AfterTreeFile}
 use Rattle.run_steps.proofs.Due.{due_here, stopped_anyway, built_for}
-use Rattle.run_steps.proofs.ReadingSteps.{tree_file_step}
+use Rattle.tree_files.proofs.TreeSteps.{tree_file_step}
 use Rattle.fdt_source.specs.Job.{IsPrinting}
 use Rattle.fdt_source.proofs.tree_printing.print_file.Goals as goal
 
