@@ -1,0 +1,47 @@
+// The program.
+ghost use Rattle.ib_config_show.specs.Job.{program_name, AreRefused, CallsFor};
+ghost use Rattle.ib_config_show.specs.Promises.{IsShown};
+
+use crate::showing::prepare;
+use filters::read_words;
+use outside::Files;
+use program::{Fault, Made, Program};
+use std::alloc::Global;
+
+// What is shown for `--help`.
+const HELP: &str = "usage: ib_config_show [CONFIG]\nShows what a configuration of ImageBuilder says, defaults included, a line for each variable.\nCONFIG is - for standard input, which is read where no file is named.\n";
+
+/// Shows what a configuration says.
+#[derive(Clone, Copy)]
+pub struct IbConfigShow;
+
+impl Program for IbConfigShow {
+    ghost name = { program_name };
+
+    ghost refuses = { AreRefused };
+
+    ghost calls_for = { CallsFor };
+
+    ghost promises = { IsShown };
+
+    fn program_name(&self) -> &'static str {
+        "ib_config_show"
+    }
+
+    fn help(&self) -> Option<&'static str> {
+        Some(HELP)
+    }
+
+    fn make<F: Files>(
+        &self,
+        alloc: Global,
+        words: &[String],
+        files: &mut F,
+    ) -> Result<Made, Fault> {
+        let Some(file) = read_words(words) else {
+            return Err(Fault::Usage);
+        };
+        let build = prepare(alloc, file, files)?;
+        Ok(Made::Built(build))
+    }
+}
