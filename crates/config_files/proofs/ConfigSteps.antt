@@ -1,4 +1,4 @@
--- Reading a configuration is a step, calls for one outcome where what follows does, and calls for no list of its own.
+-- Reading a configuration is a step, which calls for one outcome where what follows does.
 use Rattle.std.proofs.Common.{◌≡◌, refl, ℕ, List, inl, inr}
 use Rattle.std.specs.Prelude.{Option, Some, Result, Ok, Err}
 use Rattle.outside.specs.Outside.{File}
@@ -9,7 +9,7 @@ use Rattle.outside.specs.declared.status.Status.TheVariants as statuses
 use Rattle.ib_config.specs.Settings.{config_of}
 use Rattle.ib_config.specs.declared.fault.ConfigFault.{ConfigFault}
 use Rattle.ib_config.specs.declared.settings.Settings.{Settings}
-use Rattle.run_steps.specs.Endings.{Outcome, Refuses, Finds, Fails}
+use Rattle.run_steps.specs.Endings.{Outcome, Refuses, Fails}
 use Rattle.run_steps.specs.Steps.{OnResult, IsReading, IsReadRefusal, AfterReading}
 use Rattle.run_steps.proofs.Step.{IsStep, Avoids, and_then, said_as, on_result_step, both_avoid}
 use Rattle.run_steps.proofs.ReadingSteps.{reading_step}
@@ -19,7 +19,7 @@ use Rattle.config_files.specs.Configs.{config_limit, fault_message, IsFaultRefus
 
 -- what the bytes say is a step
 pub said_step : (name bytes : List ℕ) → IsStep (λ settings. config_of bytes ≡ Ok settings) (AfterConfig name bytes)
-said_step name bytes = on_result_step (IsFaultRefusal name bytes) (λ fault outputs report p. p) (config_of bytes)
+said_step name bytes = on_result_step (IsFaultRefusal name bytes) (λ fault outputs report p. p) (λ fault status list p. p) (config_of bytes)
 
 pub config_file_step : (told : Option (List File)) (name : List ℕ) → IsStep (IsConfigFile told name) (AfterConfigFile told name)
 config_file_step told name =
@@ -38,12 +38,6 @@ pub config_file_avoids : (told : Option (List File)) (name : List ℕ) (status :
 config_file_avoids told name status other =
     both_avoid (λ bytes. IsReading told name config_limit (Ok bytes)) status (AfterReading told name config_limit) (AfterConfig name) (reading_step told name config_limit) (reading_avoids status other told name config_limit)
     (λ bytes. format_avoids status other (fault_message name bytes) (config_of bytes))
-
--- a fault is no list
-pub config_lists_none : (name bytes : List ℕ) (next : Settings → Outcome → Type 0) (status : Status) (list : List ℕ) → ((settings : Settings) → next settings (Finds status list) → ⊥) → (said : Result Settings ConfigFault)
-    → OnResult (IsFaultRefusal name bytes) next said (Finds status list) → ⊥
-config_lists_none name bytes next status list never (Ok settings) job = never settings job
-config_lists_none name bytes next status list never (Err fault) job = job
 
 -- ---- what is refused for its format is a configuration with a fault
 

@@ -13,12 +13,14 @@ use Rattle.fdt_write.specs.Flattened.{length_limit}
 use Rattle.run_steps.specs.Messages.{file_message}
 use Rattle.run_steps.specs.Endings.{Outcome, Refuses, Finds, Fails}
 use Rattle.run_steps.specs.Steps.{OnResult, IsReading, IsReadRefusal}
+use Rattle.run_steps.proofs.Step.{found_before}
 use Rattle.tree_files.specs.Lengths.{too_long_message}
-use Rattle.tree_files.specs.Trees.{tree_limit, FlatTree, AfterTree}
+use Rattle.tree_files.specs.Trees.{tree_limit, FlatTree, AfterTree, AfterTreeFile, IsTreeFile}
+use Rattle.tree_files.proofs.TreeSteps.{tree_file_step}
+use Rattle.program.specs.Laws.{FindsNothing}
 use Rattle.filters.specs.Words.{asked_file}
 use Rattle.filters.specs.Filters.{OnAsked}
 use Rattle.filters.proofs.Asked.{never_asked}
-use Rattle.filters.proofs.Lists.{reading_lists_none}
 use Rattle.fdt_canonical.specs.Canonical.{IsCanonicalOf}
 use Rattle.fdt_canonical.specs.Job.{spelling, IsRespelling, IsFileRespelling, CallsFor}
 
@@ -26,20 +28,19 @@ no_failure : {status : Status} {name message : List ℕ} → Refuses status mess
 no_failure e = cc
 
 module _ (status : Status) (list : List ℕ) where
-  respelling_lists_none : (name : List ℕ) (tree : FlatTree) → IsRespelling name tree (Finds status list) → ⊥
-  respelling_lists_none name tree (inl refused) = refused.1
-  respelling_lists_none name tree (inr written) = written.1
+  respelling_finds_none : (name : List ℕ) (tree : FlatTree) → IsRespelling name tree (Finds status list) → ⊥
+  respelling_finds_none name tree (inl refused) = refused.1
+  respelling_finds_none name tree (inr written) = written.1
 
-  tree_lists_none : (name bytes : List ℕ) → AfterTree name bytes (IsRespelling name) (Finds status list) → ⊥
-  tree_lists_none name bytes (inl refused) = refused.2
-  tree_lists_none name bytes (inr given) = respelling_lists_none name given.0 given.2
+  file_finds_none : (told : Option (List File)) (name : List ℕ) → IsFileRespelling told name (Finds status list) → ⊥
+  file_finds_none told name job =
+      let found = found_before (IsTreeFile told name) (AfterTreeFile told name) (tree_file_step told name) (IsRespelling name) status list job in
+      respelling_finds_none name found.0 found.2
+
+pub finds_nothing : FindsNothing CallsFor
+finds_nothing words told status list job = never_asked (IsFileRespelling told) (Finds status list) (file_finds_none status list told) (asked_file words) job
 
 module _ (told : Option (List File)) where
-  pub lists_none : (words : List (List ℕ)) (status : Status) (list : List ℕ) → CallsFor words told (Finds status list) → ⊥
-  lists_none words status list job =
-      never_asked (IsFileRespelling told) (Finds status list)
-      (λ name. reading_lists_none name tree_limit (λ bytes. AfterTree name bytes (IsRespelling name)) status list (tree_lists_none status list name) told) (asked_file words) job
-
   module _ (name message : List ℕ) where
     -- a file of this name is no flattened tree, and this is the message of its first fault
     pub record IsFaulty : Type 0 where

@@ -2,14 +2,20 @@
 ghost use Rattle.fdt_canonical.specs.Job.{program_name, AreRefused, CallsFor};
 ghost use Rattle.fdt_canonical.specs.Promises.{IsRespelled};
 
+use crate::laws;
 use crate::respelling::prepare;
 use filters::read_words;
 use outside::Files;
 use program::{Fault, Made, Program};
 use std::alloc::Global;
 
-// What is shown for `--help`.
-const HELP: &str = "usage: fdt_canonical [TREE]\nRewrites a flattened device tree in its canonical spelling, on standard output.\nTREE is - for standard input, which is read where no file is named.\n";
+/// What is shown for the word `--help`.
+const HELP: &str = "usage: fdt_canonical [TREE]
+       fdt_canonical --help | --version
+
+Rewrites a flattened device tree in its one canonical spelling, on standard output.
+Without TREE, or where it is -, the tree is read from standard input.
+";
 
 /// Rewrites a flattened tree in its canonical spelling.
 #[derive(Clone, Copy)]
@@ -20,9 +26,19 @@ impl Program for FdtCanonical {
 
     ghost refuses = { AreRefused };
 
+    ghost words_take_memory = { ⊥ };
+
     ghost calls_for = { CallsFor };
 
     ghost promises = { IsRespelled };
+
+    fn one_outcome(&self) {
+        laws::one_outcome();
+    }
+
+    fn asks_nothing(&self) {
+        laws::asks_nothing();
+    }
 
     fn program_name(&self) -> &'static str {
         "fdt_canonical"

@@ -2,9 +2,9 @@
 #![tactic(auto)]
 
 use fdt_canonical::FdtCanonical;
-use real_outside::start;
+use real_outside::start_filter;
 use std::process::ExitCode;
 
 fn main(rt: HostRuntime) -> ExitCode {
-    start(&rt, rt.stdout(), rt.stderr(), &FdtCanonical)
+    start_filter(&rt, rt.stdout(), rt.stderr(), &FdtCanonical)
 }

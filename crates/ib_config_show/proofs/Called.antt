@@ -4,28 +4,19 @@ use Rattle.std.specs.Prelude.{Option}
 use Rattle.outside.specs.Outside.{File}
 use Rattle.outside.specs.declared.status.Status.{Status}
 use Rattle.outside.specs.declared.status.Status.TheVariants as statuses
-use Rattle.ib_config.specs.Settings.{config_of}
 use Rattle.run_steps.specs.Endings.{Refuses, Finds}
 use Rattle.run_steps.specs.Steps.{IsWriting}
+use Rattle.run_steps.proofs.Step.{found_before}
+use Rattle.program.specs.Laws.{FindsNothing}
 use Rattle.filters.specs.Words.{asked_file}
 use Rattle.filters.specs.Filters.{OnAsked}
 use Rattle.filters.proofs.Asked.{never_asked}
-use Rattle.filters.proofs.Lists.{reading_lists_none}
-use Rattle.config_files.specs.Configs.{config_limit, AfterConfig}
-use Rattle.config_files.proofs.ConfigSteps.{config_lists_none, IsFaulty, file_faulty}
+use Rattle.config_files.specs.Configs.{AfterConfigFile, IsConfigFile}
+use Rattle.config_files.proofs.ConfigSteps.{config_file_step, IsFaulty, file_faulty}
 use Rattle.ib_config_show.specs.Shown.{config_lines}
 use Rattle.ib_config_show.specs.Job.{IsShowing, CallsFor}
 
 module _ (told : Option (List File)) where
-  -- showing a file finds no list
-  file_lists_none : (status : Status) (list file : List ℕ) → IsShowing told file (Finds status list) → ⊥
-  file_lists_none status list file job =
-      reading_lists_none file config_limit (λ bytes. AfterConfig file bytes (λ settings. IsWriting [] (config_lines settings))) status list
-      (λ bytes job. config_lists_none file bytes (λ settings. IsWriting [] (config_lines settings)) status list (λ settings job. job) (config_of bytes) job) told job
-
-  pub lists_none : (words : List (List ℕ)) (status : Status) (list : List ℕ) → CallsFor words told (Finds status list) → ⊥
-  lists_none words status list job = never_asked (IsShowing told) (Finds status list) (file_lists_none status list) (asked_file words) job
-
   asked_faulty : (asked : Option (List ℕ)) (message : List ℕ) → OnAsked (IsShowing told) asked (Refuses statuses.Format message) → (file : List ℕ) × (asked ≡ Some file) × IsFaulty told file message
   asked_faulty None message job = elim job [ ]
   asked_faulty (Some file) message job =
@@ -33,3 +24,12 @@ module _ (told : Option (List File)) where
 
   pub faulty : (words : List (List ℕ)) (message : List ℕ) → CallsFor words told (Refuses statuses.Format message) → (file : List ℕ) × (asked_file words ≡ Some file) × IsFaulty told file message
   faulty words message job = asked_faulty (asked_file words) message job
+
+-- showing a file finds no list
+file_finds_none : (told : Option (List File)) (status : Status) (list file : List ℕ) → IsShowing told file (Finds status list) → ⊥
+file_finds_none told status list file job =
+    let found = found_before (IsConfigFile told file) (AfterConfigFile told file) (config_file_step told file) (λ settings. IsWriting [] (config_lines settings)) status list job in
+    found.2
+
+pub finds_nothing : FindsNothing CallsFor
+finds_nothing words told status list job = never_asked (IsShowing told) (Finds status list) (file_finds_none told status list) (asked_file words) job

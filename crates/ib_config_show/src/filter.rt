@@ -2,14 +2,20 @@
 ghost use Rattle.ib_config_show.specs.Job.{program_name, AreRefused, CallsFor};
 ghost use Rattle.ib_config_show.specs.Promises.{IsShown};
 
+use crate::laws;
 use crate::showing::prepare;
 use filters::read_words;
 use outside::Files;
 use program::{Fault, Made, Program};
 use std::alloc::Global;
 
-// What is shown for `--help`.
-const HELP: &str = "usage: ib_config_show [CONFIG]\nShows what a configuration of ImageBuilder says, defaults included, a line for each variable.\nCONFIG is - for standard input, which is read where no file is named.\n";
+/// What is shown for the word `--help`.
+const HELP: &str = "usage: ib_config_show [CONFIG]
+       ib_config_show --help | --version
+
+Shows what each variable of an ImageBuilder configuration means, on standard output.
+Without CONFIG, or where it is -, the configuration is read from standard input.
+";
 
 /// Shows what a configuration says.
 #[derive(Clone, Copy)]
@@ -20,9 +26,19 @@ impl Program for IbConfigShow {
 
     ghost refuses = { AreRefused };
 
+    ghost words_take_memory = { ⊥ };
+
     ghost calls_for = { CallsFor };
 
     ghost promises = { IsShown };
+
+    fn one_outcome(&self) {
+        laws::one_outcome();
+    }
+
+    fn asks_nothing(&self) {
+        laws::asks_nothing();
+    }
 
     fn program_name(&self) -> &'static str {
         "ib_config_show"

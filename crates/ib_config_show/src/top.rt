@@ -1,5 +1,5 @@
 // The top call.
-ghost use Rattle.std.specs.Prelude.{◌≡◌, ◌≢◌, Ok, Err, Some, map, string_bytes};
+ghost use Rattle.std.specs.Prelude.{◌≡◌, ◌≢◌, ◌↔◌, IsNone, Ok, Err, Some, map, string_bytes};
 ghost use Rattle.outside.specs.Outside.{and_bytes};
 ghost use Rattle.ib_config.specs.Settings.{config_of};
 ghost use Rattle.run_steps.specs.Endings.{Said};
@@ -13,7 +13,7 @@ ghost use Rattle.ib_config_show.specs.Promises.{IsShown};
 ghost use Rattle.ib_config_show.specs.Shown.{config_lines};
 
 use crate::IbConfigShow;
-use crate::laws::{asks_nothing, one_outcome};
+use crate::laws::finds_nothing;
 use outside::{Files, Outs, Sink, Status};
 use std::alloc::Global;
 
@@ -46,12 +46,14 @@ pub fn run<F: Files, O: Outs, S: Sink, E: Sink>(
     // Every other answer leaves standard output as it was: nothing is found.
     ensures out_kept { result ≢ Status.Built → result ≢ Status.Write → out.new ≡ out.old }
 
-    // How the run ended otherwise, as every program's.
+    // The words are refused exactly where they ask for no file.
+    ensures words { (result ≡ Status.Words) ↔ IsNone (asked_file (map string_bytes words.now)) }
+
+    // How the run ended, as every program's; reading the words takes no memory.
     ensures ran { Ran F.held F.counts O.written O.room O.faults S.taken S.room S.faults E.taken E.faults
-        program_name (AreRefused (map string_bytes words.now)) (CallsFor (map string_bytes words.now) (F.held files.old)) (IsShown (map string_bytes words.now) (F.held files.old))
+        program_name (AreRefused (map string_bytes words.now)) (⊥) (CallsFor (map string_bytes words.now) (F.held files.old)) (IsShown (map string_bytes words.now) (F.held files.old))
         files.old files.new outs.old outs.new out.old out.new err.old err.new result }
 {
-    one_outcome();
-    asks_nothing();
+    finds_nothing();
     program::run(&IbConfigShow, alloc, words, files, outs, out, err)
 }

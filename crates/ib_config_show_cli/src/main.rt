@@ -2,9 +2,9 @@
 #![tactic(auto)]
 
 use ib_config_show::IbConfigShow;
-use real_outside::start;
+use real_outside::start_filter;
 use std::process::ExitCode;
 
 fn main(rt: HostRuntime) -> ExitCode {
-    start(&rt, rt.stdout(), rt.stderr(), &IbConfigShow)
+    start_filter(&rt, rt.stdout(), rt.stderr(), &IbConfigShow)
 }

@@ -4,18 +4,16 @@ use Rattle.std.specs.Prelude.{Option, Bool, true, false}
 use Rattle.outside.specs.Outside.{File}
 use Rattle.outside.specs.declared.status.Status.{Status}
 use Rattle.outside.specs.declared.status.Status.TheVariants as statuses
-use Rattle.ib_config.specs.Settings.{config_of}
 use Rattle.ib_config.specs.declared.settings.Settings.{Settings}
 use Rattle.ib_config_lint.specs.Warnings.{warnings}
 use Rattle.run_steps.specs.Endings.{Refuses, Finds}
-use Rattle.run_steps.specs.Steps.{nothing}
+use Rattle.run_steps.proofs.Step.{found_before}
 use Rattle.run_steps.proofs.Avoided.{IsOfNoFile}
 use Rattle.filters.specs.Words.{asked_file}
 use Rattle.filters.specs.Filters.{OnAsked}
 use Rattle.filters.proofs.Asked.{never_asked}
-use Rattle.filters.proofs.Lists.{reading_lists_none}
-use Rattle.config_files.specs.Configs.{config_limit, AfterConfig, AfterConfigFile, IsConfigFile}
-use Rattle.config_files.proofs.ConfigSteps.{config_file_step, config_file_avoids, config_lists_none, IsFaulty, file_faulty}
+use Rattle.config_files.specs.Configs.{AfterConfigFile, IsConfigFile}
+use Rattle.config_files.proofs.ConfigSteps.{config_file_step, config_file_avoids, IsFaulty, file_faulty}
 use Rattle.ib_lint.specs.Verdicts.{lines, is_clean, OnVerdict, IsJudging}
 use Rattle.ib_lint.specs.Job.{IsLinting, CallsFor}
 
@@ -54,12 +52,6 @@ module _ (told : Option (List File)) where
   pub faulty : (words : List (List ℕ)) (message : List ℕ) → CallsFor words told (Refuses statuses.Format message) → (file : List ℕ) × (asked_file words ≡ Some file) × IsFaulty told file message
   faulty words message job = asked_faulty (asked_file words) message job
 
-  -- a file that gives no settings gives no list
-  unread_lists_none : (status : Status) (list file : List ℕ) → AfterConfigFile told file nothing (Finds status list) → ⊥
-  unread_lists_none status list file job =
-      reading_lists_none file config_limit (λ bytes. AfterConfig file bytes nothing) status list
-      (λ bytes job. config_lists_none file bytes nothing status list (λ settings job. job) (config_of bytes) job) told job
-
   -- the list of a configuration's warnings, of which one is no remark
   pub record IsListed (file : List ℕ) (status : Status) (list : List ℕ) : Type 0 where
     pub settings : Settings
@@ -69,12 +61,10 @@ module _ (told : Option (List File)) where
     pub said : list ≡ lines (warnings settings)
 
   file_lists : (file : List ℕ) (status : Status) (list : List ℕ) → IsLinting told file (Finds status list) → IsListed file status list
-  file_lists file status list job = elim ((config_file_step told file).splits IsJudging (Finds status list) job) [
-    | inl given ↦
-        let found = verdict_lists (lines (warnings given.0)) (is_clean (warnings given.0)) status list given.2 in
-        record { settings = given.0; read = given.1; warned = found.0; differs = found.1; said = found.2 }
-    | inr refused ↦ absurd (unread_lists_none status list file refused)
-  ]
+  file_lists file status list job =
+      let given = found_before (IsConfigFile told file) (AfterConfigFile told file) (config_file_step told file) IsJudging status list job in
+      let found = verdict_lists (lines (warnings given.0)) (is_clean (warnings given.0)) status list given.2 in
+      record { settings = given.0; read = given.1; warned = found.0; differs = found.1; said = found.2 }
 
   asked_lists : (asked : Option (List ℕ)) (status : Status) (list : List ℕ) → OnAsked (IsLinting told) asked (Finds status list) → (file : List ℕ) × (asked ≡ Some file) × IsListed file status list
   asked_lists None status list job = elim job [ ]

@@ -1,5 +1,5 @@
 // The top call.
-ghost use Rattle.std.specs.Prelude.{◌≡◌, Ok, Err, Some, map, string_bytes, true, false};
+ghost use Rattle.std.specs.Prelude.{◌≡◌, ◌↔◌, IsNone, Ok, Err, Some, map, string_bytes, true, false};
 ghost use Rattle.outside.specs.Outside.{and_bytes};
 ghost use Rattle.ib_config.specs.Settings.{config_of};
 ghost use Rattle.ib_config_lint.specs.Warnings.{warnings};
@@ -14,7 +14,6 @@ ghost use Rattle.ib_lint.specs.Promises.{IsClean};
 ghost use Rattle.ib_lint.specs.Verdicts.{lines, is_clean};
 
 use crate::IbLint;
-use crate::laws::{asks_nothing, one_outcome};
 use outside::{Files, Outs, Sink, Status};
 use std::alloc::Global;
 
@@ -55,12 +54,13 @@ pub fn run<F: Files, O: Outs, S: Sink, E: Sink>(
         × Said E.taken E.faults err.old err.new (line program_name (fault_message file bytes fault))
         × (out.new ≡ out.old) }
 
-    // How the run ended otherwise, as every program's.
+    // The words are refused exactly where they ask for no file.
+    ensures words { (result ≡ Status.Words) ↔ IsNone (asked_file (map string_bytes words.now)) }
+
+    // How the run ended, as every program's; reading the words takes no memory.
     ensures ran { Ran F.held F.counts O.written O.room O.faults S.taken S.room S.faults E.taken E.faults
-        program_name (AreRefused (map string_bytes words.now)) (CallsFor (map string_bytes words.now) (F.held files.old)) (IsClean (map string_bytes words.now) (F.held files.old))
+        program_name (AreRefused (map string_bytes words.now)) (⊥) (CallsFor (map string_bytes words.now) (F.held files.old)) (IsClean (map string_bytes words.now) (F.held files.old))
         files.old files.new outs.old outs.new out.old out.new err.old err.new result }
 {
-    one_outcome();
-    asks_nothing();
     program::run(&IbLint, alloc, words, files, outs, out, err)
 }

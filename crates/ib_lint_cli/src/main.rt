@@ -2,9 +2,9 @@
 #![tactic(auto)]
 
 use ib_lint::IbLint;
-use real_outside::start;
+use real_outside::start_filter;
 use std::process::ExitCode;
 
 fn main(rt: HostRuntime) -> ExitCode {
-    start(&rt, rt.stdout(), rt.stderr(), &IbLint)
+    start_filter(&rt, rt.stdout(), rt.stderr(), &IbLint)
 }

@@ -1,6 +1,4 @@
 use Rattle.std.proofs.Common.{rules, ◌≡◌, Err, refl}
-use Rattle.run_steps.specs.Endings.{Builds}
-use Rattle.run_steps.specs.Outputs.{files_of, report_of}
 use Rattle.run_steps.specs.Steps.{AfterReading, nothing}
 use Rattle.run_steps.proofs.Due.{due_here, due_anyway}
 use Rattle.run_steps.proofs.ReadingSteps.{reading_step}
@@ -24,3 +22,9 @@ returns-in_err-spelling-clause-stopped g c =
     (due_anyway (AfterTree c.args.file.now c.in_ok-bytes.bytes.items (IsRespelling c.args.file.now)) _
     ((reading_step (g.F.Files.held c.args.files.now) c.args.file.now tree_limit).gives c.in_ok-bytes.bytes.items c.in_ok-bytes.ensures.read (λ bytes. AfterTree c.args.file.now bytes (IsRespelling c.args.file.now)))
     _ _ (c.in_err-spelling.field-0.0) (rw c.deref.ensures.value at c.in_err-spelling.ensures.stopped))
+
+pub returns-clause-built : goal.returns-clause-built
+returns-clause-built g c =
+    let written = rw c.deref.ensures.value at c.in_ok-spelling.ensures.written in
+    (reading_step (g.F.Files.held c.args.files.now) c.args.file.now tree_limit).gives c.in_ok-bytes.bytes.items c.in_ok-bytes.ensures.read (λ bytes. AfterTree c.args.file.now bytes (IsRespelling c.args.file.now)) _
+    (spelling_called c.args.file.now c.in_ok-bytes.bytes.items c.in_ok-spelling.spelling _ _ written c.in_ok-spelling.ensures.fits (rw c.new.ensures refl) refl)

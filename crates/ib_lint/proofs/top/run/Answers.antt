@@ -1,12 +1,22 @@
-use Rattle.std.proofs.Common.{◌≡◌, subst, inl, inr, List, ℕ, map, string_bytes}
+use Rattle.std.proofs.Common.{◌≡◌, subst, refl, inl, inr, List, ℕ, map, string_bytes}
 use Rattle.outside.specs.Outside.{and_bytes}
 use Rattle.outside.specs.declared.status.Status.{Status}
 use Rattle.outside.specs.declared.status.Status.TheVariants as statuses
 use Rattle.run_steps.specs.Endings.{Refuses, Finds, Said}
 use Rattle.run_steps.specs.Messages.{line}
+use Rattle.program.specs.Programs.{usage_line}
 use Rattle.ib_lint.specs.Job.{program_name, CallsFor}
 use Rattle.ib_lint.proofs.Called.{differs_none, faulty, listed}
 use Rattle.ib_lint.proofs.top.run.Goals as goal
+
+pub returns-clause-words : goal.returns-clause-words
+returns-clause-words g c = (
+  λ is. let said = c.run.ensures.ran.words is in said.2.0,
+  λ none. elim (c.run.ensures.ran.unasked (usage_line program_name) (none, refl)) [
+    | inl is ↦ is
+    | inr memory ↦ elim memory.0 [ ]
+  ],
+)
 
 pub returns-clause-warned : goal.returns-clause-warned
 returns-clause-warned g c =
