@@ -26,6 +26,12 @@ enum Program {
     Overlay,
     /// `fdt_source`.
     Source,
+    /// `fdt_canonical`.
+    Canonical,
+    /// `ib_config_show`.
+    Show,
+    /// `ib_lint`.
+    Lint,
 }
 
 /// The program of a name; `dom0less` of any other.
@@ -34,6 +40,9 @@ fn program_of(name: &str) -> Program {
         "guest_load" => Program::Load,
         "fdt_overlay" => Program::Overlay,
         "fdt_source" => Program::Source,
+        "fdt_canonical" => Program::Canonical,
+        "ib_config_show" => Program::Show,
+        "ib_lint" => Program::Lint,
         _ => Program::Build,
     }
 }
@@ -145,6 +154,9 @@ impl Case {
             Program::Load => guest_load::run(alloc, words, files, outs, out, err),
             Program::Overlay => fdt_overlay::run(alloc, words, files, outs, out, err),
             Program::Source => fdt_source::run(alloc, words, files, outs, out, err),
+            Program::Canonical => fdt_canonical::run(alloc, words, files, outs, out, err),
+            Program::Show => ib_config_show::run(alloc, words, files, outs, out, err),
+            Program::Lint => ib_lint::run(alloc, words, files, outs, out, err),
         }
     }
 

@@ -52,8 +52,8 @@ pub(crate) fn show_content(
     }
 }
 
-/// Shows bytes.
-fn show_bytes(rt: &impl Print, bytes: &[u8]) -> io::Result<()> {
+/// Shows bytes, two hexadecimal digits each.
+pub(crate) fn show_bytes(rt: &impl Print, bytes: &[u8]) -> io::Result<()> {
     print!(rt; "  ")?;
     for byte in bytes {
         print!(rt; "{byte:02x}")?;

@@ -1,6 +1,6 @@
 // What a run answered, said and wrote.
 use crate::case::{Case, OUTPUTS};
-use crate::content::show_content;
+use crate::content::{show_bytes, show_content};
 use outside::Status;
 use std::io;
 
@@ -14,8 +14,16 @@ pub(crate) fn show(
     let code = status.code();
     println!(rt; ": status {code}")?;
     show_lines(rt, case.said())?;
-    show_lines(rt, case.report())?;
+    show_report(rt, case.report())?;
     show_outputs(rt, lines, case)
+}
+
+/// Shows a report: a text as it is, and other bytes as bytes.
+fn show_report(rt: &impl Print, bytes: &[u8]) -> io::Result<()> {
+    if str::from_utf8(bytes).is_ok() {
+        return show_lines(rt, bytes);
+    }
+    show_bytes(rt, bytes)
 }
 
 /// Shows the outputs with what lines ask for of them.

@@ -1,5 +1,5 @@
 pub mod Ended
-pub mod ReadLemmas
-pub mod RunLemmas
+pub mod SpellingLemmas
 pub mod Settled
-mod Instances
+pub mod Called
+mod OneOutcome

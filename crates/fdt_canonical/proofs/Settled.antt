@@ -1,6 +1,7 @@
 -- What is written of a file is the canonical spelling of itself.
 use Rattle.std.proofs.Common.{◌≡◌, ℕ, zero, suc, ◌+◌, ◌^◌, ◌<◌, ◌≤◌, Bool, true, false, cond, not, nat_lt, List, [], ◌∷◌, length, get_or, take, drop, sym, ◌∙◌, subst, arith}
-use Rattle.std.specs.Prelude.{All, take_while}
+use Rattle.std.specs.Prelude.{All, IsTrue, take_while}
+use Rattle.std.specs.List.{list_all}
 use Rattle.std.proofs.lemmas.List.{get_or-drop}
 use Rattle.std.proofs.lemmas.List.Elements.{All-cons}
 use Rattle.std.proofs.lemmas.List.Sums.{take_while-cons}
@@ -14,7 +15,6 @@ use Rattle.fdt_tree.specs.Whole.{IsKept}
 use Rattle.fdt_write.specs.Laws.{AreReserves, IsWide}
 use Rattle.fdt_write.proofs.ReadBack.{is_read_back}
 use Rattle.fdt_canonical.specs.Canonical.{IsCanonicalOf}
-use Rattle.fdt_canonical.proofs.ReadLemmas.{not_last_read}
 use Rattle.fdt_canonical.proofs.Ended.{names-kept}
 
 -- the items are bytes
@@ -66,10 +66,11 @@ reservations-wide file h =
     taken-wide (λ reserve. not (is_last_pair reserve)) (pairs block) (pairs-wide (length block) block (drop-bytes (reservations_offset file) (take (total_size file) file) (take-bytes (total_size file) file h)))
 
 -- the canonical spelling of a file, if it is short enough, spells what the file spells
-pub settled : (file bytes : Bytes) (reserves found : List Reserve) (boot : ℕ) (t : Tree) → AreBytes file → Spells file reserves boot t → found ≡ reserves → bytes ≡ flattened found boot t → length (flattened found boot t) ≤ length_limit → IsCanonicalOf bytes bytes
-settled file bytes reserves found boot t are spelled same canonical short =
+pub settled : (file bytes : Bytes) (reserves found : List Reserve) (boot : ℕ) (t : Tree) → AreBytes file → Spells file reserves boot t → found ≡ reserves
+    → IsTrue (list_all (λ reserve. not (is_last_pair reserve)) found) → bytes ≡ flattened found boot t → length (flattened found boot t) ≤ length_limit → IsCanonicalOf bytes bytes
+settled file bytes reserves found boot t are spelled same not_last canonical short =
     let wide : All IsWide found = subst (λ (rs : List Reserve). All IsWide rs) (spelled.reserved ∙ sym same) (reservations-wide file are) in
-    let ends : AreReserves found = record { wide = wide; not_last = not_last_read file reserves found spelled.reserved same } in
+    let ends : AreReserves found = record { wide = wide; not_last = not_last } in
     let kept : IsKept t = record { unnamed = spelled.unnamed; names = names-kept file t spelled.structure spelled.names; shallow = spelled.depth } in
     let small : boot < 2 ^ 32 = subst (λ (n : ℕ). n < 2 ^ 32) spelled.processor (word-lt file 28 are) in
     record {

@@ -1,12 +1,9 @@
--- What the canonical spelling of a file is, and why a file has none.
-use Rattle.std.specs.Prelude.{◌≡◌, ℕ, ◌<◌, ◌≤◌, List, Some, length}
+-- What the canonical spelling of a file is.
+use Rattle.std.specs.Prelude.{◌≡◌, ℕ, ◌≤◌, List, length}
 use Rattle.fdt_tree.specs.Tree.{Bytes, Tree}
 use Rattle.fdt_tree.specs.declared.reserve.Reserve.{Reserve}
-use Rattle.fdt_read.specs.Refusals.{refusal}
 use Rattle.fdt_read.specs.Spells.{Spells}
 use Rattle.fdt_write.specs.Flattened.{flattened, length_limit}
-use Rattle.fdt_canonical.specs.declared.refusal.Refusal.{Refusal}
-use Rattle.fdt_canonical.specs.declared.refusal.Refusal.TheVariants.{Unread, Longer, TooLong, Memory}
 
 -- The bytes are the canonical spelling of what the file spells: its tree, reservations and boot processor.
 pub record IsCanonicalOf (file bytes : Bytes) : Type 0 where
@@ -16,17 +13,9 @@ pub record IsCanonicalOf (file bytes : Bytes) : Type 0 where
   pub spelled : Spells file reserves boot whole
   pub canonical : bytes ≡ flattened reserves boot whole
 
--- The file spells a tree whose canonical spelling is too long to be written.
-abbrev pub IsTooLong : Bytes → Type 0
-IsTooLong file = (bytes : Bytes) × IsCanonicalOf file bytes × (length_limit < length bytes)
-
--- The most bytes that are read: 1 MiB.
-abbrev pub read_limit : ℕ
-read_limit = 1048576
-
--- Why the file is not rewritten: its length, which comes before its first fault; the length of its canonical spelling; or want of memory, whatever the file.
-abbrev pub IsRefusedBy : Bytes → Refusal → Type 0
-IsRefusedBy file (Unread fault) = (length file ≤ read_limit) × (refusal file ≡ Some fault)
-IsRefusedBy file Longer = read_limit < length file
-IsRefusedBy file TooLong = (length file ≤ read_limit) × IsTooLong file
-IsRefusedBy file Memory = Unit {0}
+-- The bytes are the canonical spelling of the file, and nothing else is; they are at most 2 MiB, and their own canonical spelling.
+pub record IsOneSpelling (file bytes : Bytes) : Type 0 where
+  pub written : IsCanonicalOf file bytes
+  pub only : (other : Bytes) → IsCanonicalOf file other → other ≡ bytes
+  pub fits : length bytes ≤ length_limit
+  pub settled : IsCanonicalOf bytes bytes

@@ -1,3 +1,3 @@
 pub mod Canonical
-pub mod Runs
-pub mod Shown
+pub mod Job
+pub mod Promises

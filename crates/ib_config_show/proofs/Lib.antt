@@ -1,3 +1,4 @@
 pub mod GuestLemmas
 pub mod PartLemmas
-mod Instances
+mod Called
+mod OneOutcome

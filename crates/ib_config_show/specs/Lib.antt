@@ -1,4 +1,5 @@
-pub mod Answers
+pub mod Job
 pub mod Lines
+pub mod Promises
 pub mod Shown
 pub mod Words

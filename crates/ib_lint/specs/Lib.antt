@@ -1,1 +1,3 @@
-pub mod Answers
+pub mod Job
+pub mod Promises
+pub mod Verdicts

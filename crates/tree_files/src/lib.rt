@@ -5,5 +5,5 @@ mod messages;
 mod reading;
 mod writing;
 
-pub use reading::{TreeFile, read_tree};
+pub use reading::{TreeFile, read_flattened, read_tree};
 pub use writing::{one_output, write_tree};

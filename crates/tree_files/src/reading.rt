@@ -1,5 +1,7 @@
 // Reading a flattened tree (Devicetree Specification 0.4, chapter 5).
-ghost use Rattle.std.specs.Prelude.{◌≡◌, IfOk, IfErr};
+ghost use Rattle.std.specs.Prelude.{◌≡◌, IfOk, IfErr, IsTrue, not};
+ghost use Rattle.std.specs.List.{list_all};
+ghost use Rattle.fdt_read.specs.Reservations.{is_last_pair};
 ghost use Rattle.outside.specs.Reads.{Reads};
 ghost use Rattle.run_steps.specs.Steps.{nothing};
 ghost use Rattle.tree_files.specs.Trees.{flat_tree, IsFlattened, AfterTree, AfterTreeFile, IsTreeFile};
@@ -34,9 +36,10 @@ pub fn read_tree<F: Files>(alloc: Global, name: &str, files: &mut F) -> Result<T
     read_flattened(alloc, name, &bytes)
 }
 
-/// What the bytes of a tree's file say.
-fn read_flattened(alloc: Global, name: &str, bytes: &[u8]) -> Result<TreeFile, Stop>
+/// What the bytes of the tree's file of this name say. Bytes that spell no tree stop the run; their first fault is named.
+pub fn read_flattened(alloc: Global, name: &str, bytes: &[u8]) -> Result<TreeFile, Stop>
     ensures read { IfOk result (λ tree. IsFlattened bytes.now (flat_tree tree)) }
+    ensures reserved { IfOk result (λ tree. IsTrue (list_all (λ reserve. not (is_last_pair reserve)) tree.flat.reserves)) }
     ensures stopped { IfErr result (λ stop. IsOwnDue (AfterTree name.now bytes.now nothing) stop) }
 {
     match read(alloc, bytes) {

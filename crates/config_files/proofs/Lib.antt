@@ -1,0 +1,2 @@
+pub mod ConfigSteps
+mod Instances
