@@ -17,11 +17,7 @@ const CONFIG_LIMIT: u64 = 65_536;
 
 /// What the configuration of this name says, which has at most 65,536 bytes. A file that cannot be read stops the run, and
 /// so does a configuration that is refused, whose first fault is named: a name that is not supported stands behind its fault.
-pub fn read_config_file<F: Files>(
-    alloc: Global,
-    name: &str,
-    files: &mut F,
-) -> Result<Config, Stop>
+pub fn read_config_file<F: Files>(alloc: Global, name: &str, files: &mut F) -> Result<Config, Stop>
     ensures read { IfOk result (λ config. IsConfigFile (F.held files.old) name.now config) }
     ensures stopped { IfErr result (StopsFor F.counts files.old files.new (AfterConfigFile (F.held files.old) name.now nothing)) }
     ensures only_read { Reads F.held F.counts files.old files.new }

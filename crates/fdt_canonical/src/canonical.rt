@@ -24,12 +24,6 @@ pub(crate) fn canonical(alloc: Global, name: &str, file: &[u8]) -> Result<Bytes,
 {
     let tree = read_flattened(alloc, name, file)?;
     let flat = &tree.flat;
-    let bytes = write_tree(
-        alloc,
-        name,
-        &flat.tree,
-        flat.reserves.as_slice(),
-        flat.boot,
-    )?;
+    let bytes = write_tree(alloc, name, &flat.tree, flat.reserves.as_slice(), flat.boot)?;
     Ok(bytes)
 }

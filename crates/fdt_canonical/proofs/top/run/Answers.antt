@@ -25,9 +25,15 @@ returns-clause-fault g c =
     let told = g.F.Files.held c.args.files.now in
     λ is. elim (c.run.ensures.ran.found (inr (inl is))) [
       | inl said ↦
-          let name = faulty told words said.0 (subst (λ (s : Status). CallsFor words told (Refuses s said.0)) is said.2) in
-          (name.0, name.2.file, name.2.fault, name.1, name.2.read, name.2.faulty,
-          subst (λ (m : List ℕ). Said g.E.Sink.taken g.E.Sink.faults c.args.err.now c.run.new.err (line program_name m)) name.2.said said.1)
+          let name = faulty told words said.0 (subst (λ (s : Status). CallsFor words told (Refuses s said.0)) is said.2) in (
+            name.0,
+            name.2.file,
+            name.2.fault,
+            name.1,
+            name.2.read,
+            name.2.faulty,
+            subst (λ (m : List ℕ). Said g.E.Sink.taken g.E.Sink.faults c.args.err.now c.run.new.err (line program_name m)) name.2.said said.1,
+          )
       | inr found ↦ absurd (c.finds_nothing.ensures words told c.run.result found.0 found.1)
     ]
 
@@ -37,8 +43,15 @@ returns-clause-too_long g c =
     let told = g.F.Files.held c.args.files.now in
     λ is. elim (c.run.ensures.ran.found (inl is)) [
       | inl said ↦
-          let name = too_long told words said.0 (subst (λ (s : Status). CallsFor words told (Refuses s said.0)) is said.2) in
-          (name.0, name.2.file, name.2.bytes, name.1, name.2.read, name.2.canonical, name.2.longer,
-          subst (λ (m : List ℕ). Said g.E.Sink.taken g.E.Sink.faults c.args.err.now c.run.new.err (line program_name m)) name.2.said said.1)
+          let name = too_long told words said.0 (subst (λ (s : Status). CallsFor words told (Refuses s said.0)) is said.2) in (
+            name.0,
+            name.2.file,
+            name.2.bytes,
+            name.1,
+            name.2.read,
+            name.2.canonical,
+            name.2.longer,
+            subst (λ (m : List ℕ). Said g.E.Sink.taken g.E.Sink.faults c.args.err.now c.run.new.err (line program_name m)) name.2.said said.1,
+          )
       | inr found ↦ absurd (c.finds_nothing.ensures words told c.run.result found.0 found.1)
     ]

@@ -25,8 +25,14 @@ returns-clause-fault g c =
     let told = g.F.Files.held c.args.files.now in
     λ is. elim (c.run.ensures.ran.found (inr (inl is))) [
       | inl said ↦
-          let file = faulty told words said.0 (subst (λ (s : Status). CallsFor words told (Refuses s said.0)) is said.2) in
-          (file.0, file.2.bytes, file.2.fault, file.1, file.2.read, file.2.faulty,
-          subst (λ (m : List ℕ). Said g.E.Sink.taken g.E.Sink.faults c.args.err.now c.run.new.err (line program_name m)) file.2.said said.1)
+          let file = faulty told words said.0 (subst (λ (s : Status). CallsFor words told (Refuses s said.0)) is said.2) in (
+            file.0,
+            file.2.bytes,
+            file.2.fault,
+            file.1,
+            file.2.read,
+            file.2.faulty,
+            subst (λ (m : List ℕ). Said g.E.Sink.taken g.E.Sink.faults c.args.err.now c.run.new.err (line program_name m)) file.2.said said.1,
+          )
       | inr found ↦ absurd (c.finds_nothing.ensures words told c.run.result found.0 found.1)
     ]

@@ -25,10 +25,15 @@ returns-clause-warned g c =
     λ is. elim (c.run.ensures.ran.found (inr (inr is))) [
       | inl said ↦ absurd (differs_none told words said.0 (subst (λ (s : Status). CallsFor words told (Refuses s said.0)) is said.2))
       | inr found ↦
-          let file = listed told words c.run.result found.0 found.1 in
-          (file.0, file.2.settings, file.1, file.2.read, file.2.warned,
-          subst (λ (list : List ℕ). g.S.Sink.taken c.run.new.out ≡ and_bytes (g.S.Sink.taken c.args.out.now) list) file.2.said found.2,
-          found.3)
+          let file = listed told words c.run.result found.0 found.1 in (
+            file.0,
+            file.2.settings,
+            file.1,
+            file.2.read,
+            file.2.warned,
+            subst (λ (list : List ℕ). g.S.Sink.taken c.run.new.out ≡ and_bytes (g.S.Sink.taken c.args.out.now) list) file.2.said found.2,
+            found.3,
+          )
     ]
 
 format_is_none : (status : Status) → status ≡ statuses.Format → status ≡ statuses.Differs → ⊥
@@ -40,9 +45,15 @@ returns-clause-fault g c =
     let told = g.F.Files.held c.args.files.now in
     λ is. elim (c.run.ensures.ran.found (inr (inl is))) [
       | inl said ↦
-          let file = faulty told words said.0 (subst (λ (s : Status). CallsFor words told (Refuses s said.0)) is said.2) in
-          (file.0, file.2.bytes, file.2.fault, file.1, file.2.read, file.2.faulty,
-          subst (λ (m : List ℕ). Said g.E.Sink.taken g.E.Sink.faults c.args.err.now c.run.new.err (line program_name m)) file.2.said said.1,
-          said.3)
+          let file = faulty told words said.0 (subst (λ (s : Status). CallsFor words told (Refuses s said.0)) is said.2) in (
+            file.0,
+            file.2.bytes,
+            file.2.fault,
+            file.1,
+            file.2.read,
+            file.2.faulty,
+            subst (λ (m : List ℕ). Said g.E.Sink.taken g.E.Sink.faults c.args.err.now c.run.new.err (line program_name m)) file.2.said said.1,
+            said.3,
+          )
       | inr found ↦ absurd (format_is_none c.run.result is (listed told words c.run.result found.0 found.1).2.differs)
     ]
